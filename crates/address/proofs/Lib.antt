@@ -1,0 +1,2 @@
+-- The tie between the formulas of specs/ and the model.
+pub mod Closed

@@ -1,0 +1,29 @@
+-- `address::exec_lda` meets its contract.
+use Rattle.address.specs.Effect.{addressed, cellsIn}
+use Rattle.words.specs.Bounded.{BoundedA}
+use borrow.Author.Needs.{needs}
+use mathlib.Core.Path.{refl}
+use Rattle.address.proofs.exec_lda.Statement.{statement}
+use Rattle.address.proofs.exec_lda.Tie as tie
+
+pub exec-lda-spec : {M : Type 1} → statement M
+unfolding BoundedA addressed cellsIn
+exec-lda-spec =
+    tie.close
+    (tie.spec
+    (λ c. search needs)
+    (λ c. search needs)
+    (λ c. search needs)
+    (λ c. search needs)
+    (λ c. search needs)
+    (λ c. search needs)
+    (λ c. search needs)
+    (λ c. search needs)
+    (λ c. search needs)
+    (λ c. search needs)
+    (λ c.
+    let e = c .before .before .before .before .before .advance .ensures in
+    let p = c .before .before .before .before .before .before .before .before .before .before .before .before .before .before in
+    let f = p .fetch .ensures in
+    let b = p .before .before .before .before .base-at .ensures .0 in
+    (rw (c .cells .ensures, b) refl, rw (e .0, e .1, f .0, f .1, c .before .before .before .before .before .before .before .before .increment .ensures, b) refl)))

@@ -1,0 +1,3 @@
+-- The definitions of translation and of address lists.
+pub mod Bank
+pub mod Line

@@ -1,0 +1,2 @@
+-- The law of the four products.
+pub mod Bitop

@@ -1,0 +1,2 @@
+-- A bit operation by its truth table.
+pub mod Bitop

@@ -1,0 +1,3 @@
+-- The vector unit's component operations.
+pub mod Lane
+pub mod Lanes

@@ -1,0 +1,65 @@
+-- What each answer stands for: document 01's number, the cell accesses, and with the six pieces the outcome of the call.
+use Prim.Native.Nat.{ℕ}
+use Rattle.words.specs.declared.Insn.{Insn}
+use Rattle.words.specs.declared.Decoded.{Decoded}
+use Rattle.words.specs.declared.Decoded.the-variants as D
+use Rattle.model.specs.State.{State}
+use Rattle.model.specs.Step.{Outcome, outcome, refusal, stepped, entered}
+use Rattle.model.specs.Run.{RunOutcome, ended}
+use Rattle.machine.specs.declared.Answer.{Answer}
+use Rattle.machine.specs.declared.Answer.the-variants as A
+use Rattle.machine.specs.declared.Stepped.{Stepped}
+use Rattle.machine.specs.declared.Stepped.the-variants as S
+use Rattle.machine.specs.declared.End.{End}
+use Rattle.machine.specs.declared.End.the-variants as E
+use Rattle.machine.specs.declared.Ran.{Ran}
+
+-- an accepted instruction, done
+abbrev pub execOf : Insn → State → Outcome
+execOf i s = outcome 0 (entered i s) (stepped i s)
+
+-- one triple
+abbrev pub answerOutcome : Answer → State → Outcome
+answerOutcome (A.Done n) s = outcome 0 n s
+answerOutcome (A.Refused k) s = outcome (refusal k) 0 s
+
+-- the single call
+abbrev pub numberOf : Stepped → ℕ
+numberOf (S.Done n) = 0
+numberOf S.Lengths = 5
+numberOf (S.Refused k) = refusal k
+
+abbrev pub accessesOf : Stepped → ℕ
+accessesOf (S.Done n) = n
+accessesOf S.Lengths = 0
+accessesOf (S.Refused k) = 0
+
+abbrev pub stepOutcome : Stepped → State → Outcome
+stepOutcome x s = outcome (numberOf x) (accessesOf x) s
+
+-- the list call
+abbrev pub endNumber : End → ℕ
+endNumber E.All = 0
+endNumber E.Lengths = 5
+endNumber E.Ragged = 6
+endNumber (E.Refused k) = refusal k
+endNumber E.Spent = 7
+
+abbrev pub runOutcome : Ran → State → RunOutcome
+runOutcome x s = ended (endNumber (x .end)) (x .steps) (x .accesses) s
+
+-- from one answer to the next
+abbrev pub refusedOf : Decoded → Answer
+refusedOf (D.Refused k) = A.Refused k
+refusedOf (D.Insn i) = A.Done 0
+
+abbrev pub toStep : Answer → Stepped
+toStep (A.Done n) = S.Done n
+toStep (A.Refused k) = S.Refused k
+
+abbrev pub toEnd : Answer → End
+toEnd (A.Done n) = E.All
+toEnd (A.Refused k) = E.Refused k
+
+abbrev pub ranOf : End → ℕ → ℕ → Ran
+ranOf e n k = record { end = e; steps = n; accesses = k }

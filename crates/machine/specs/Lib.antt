@@ -1,0 +1,2 @@
+-- The paper's number and values for each answer.
+pub mod Answers

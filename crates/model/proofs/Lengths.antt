@@ -1,0 +1,99 @@
+-- Right lengths stay right: of a step, of a triple, of the single call and of a run.
+use mathlib.Core.Path.{_≡_, refl, _∙_}
+use Prim.Native.Nat.{ℕ, _+_, _*_, _%_}
+use mathlib.Core.Bool.{Bool, true, false, cond}
+use mathlib.Core.List.{List, [], _∷_}
+use lib.Dec.{eqb}
+use lib.ListN.{length, getD, take, length-set}
+use lib.Seq.{length-sets}
+use Rattle.words.specs.Table.{decodeOf}
+use Rattle.words.specs.declared.Insn.{Insn}
+use Rattle.words.specs.declared.Decoded.{Decoded}
+use Rattle.words.specs.declared.Decoded.the-variants as D
+use Rattle.model.specs.State.{State, Sized, sizedOf, Piece, code, on, over}
+use Rattle.model.specs.Place.{Name, at, vec, byte, Xlat, xlat, Val, put, upd, edit, cut}
+use Rattle.model.specs.Prog.{run, Write, puts}
+use Rattle.model.specs.Step.{sem, stepX, stepped, Outcome, outcome, byDecoded, tripleOf, stepOf}
+use Rattle.model.specs.Run.{RunOutcome, ended, runFrom, runOf}
+use Rattle.model.proofs.Laws.{turn}
+
+length-on : (i j : ℕ) (f : List ℕ → List ℕ) (l : List ℕ) → length (f l) ≡ length l → length (on i j f l) ≡ length l
+length-on i j f l h = go (eqb i j)
+  where
+    go : (b : Bool) → length (cond b (f l) l) ≡ length l
+    go true = h
+    go false = refl
+
+sized-over : (p : Piece) (f : List ℕ → List ℕ) (s : State) → ((l : List ℕ) → length (f l) ≡ length l) → Sized s → Sized (over p f s)
+sized-over p f s k h =
+    record {
+      ds = h .ds;
+      a = length-on (code p) 0 f (s .a) (k (s .a)) ∙ h .a;
+      r = length-on (code p) 1 f (s .r) (k (s .r)) ∙ h .r;
+      c = length-on (code p) 2 f (s .c) (k (s .c)) ∙ h .c;
+      vc = length-on (code p) 3 f (s .vc) (k (s .vc)) ∙ h .vc;
+      v = h .v;
+    }
+
+-- a value put at a place keeps every length
+pub sized-put : (X : Xlat) (q : Name) (x : Val q) (s : State) → Sized s → Sized (put X q x s)
+sized-put X (at p n g) x s h = sized-over p (upd n (edit (cut p) g x)) s (λ l. length-set l n (edit (cut p) g x (getD l n 0))) h
+sized-put X (vec n) x s h =
+    record { ds = h .ds; a = h .a; r = h .r; c = h .c; vc = h .vc; v = length-sets (s .v) (16 * n) (take 16 x) ∙ h .v }
+sized-put X (byte b) x s h =
+    record { ds = length-set (s .ds) (X (b .stride) (b .addr)) x ∙ h .ds; a = h .a; r = h .r; c = h .c; vc = h .vc; v = h .v }
+
+-- and so does a list of writes
+pub sized-puts : (X : Xlat) (ws : List Write) (s : State) → Sized s → Sized (puts X ws s)
+sized-puts X [] s h = h
+sized-puts X (w ∷ ws) s h = sized-puts X ws (put X (w .name) (w .value) s) (sized-put X (w .name) (w .value) s h)
+
+-- whatever the instruction, all it does is a list of writes
+pub sized-step : (X : Xlat) (i : Insn) (s : State) → Sized s → Sized (stepX X i s)
+sized-step X i s h = sized-puts X (run X (sem i) s .writes) s h
+
+-- so under document 01's translation
+pub sized-stepped : (i : Insn) (s : State) → Sized s → Sized (stepped i s)
+unfolding stepped
+sized-stepped i s h = sized-step xlat i s h
+
+sized-decoded : (d : Decoded) (s : State) → Sized s → Sized (byDecoded d s .after)
+sized-decoded (D.Insn i) s h = sized-stepped i s h
+sized-decoded (D.Refused k) s h = h
+
+-- a triple keeps them, done or refused
+pub sized-triple : (word side mask : ℕ) (s : State) → Sized s → Sized (tripleOf word side mask s .after)
+unfolding tripleOf
+sized-triple word side mask s h = sized-decoded (decodeOf word side mask) s h
+
+-- and so does the single call
+pub sized-stepOf : (word side mask : ℕ) (s : State) → Sized s → Sized (stepOf word side mask s .after)
+unfolding stepOf
+sized-stepOf word side mask s h = go (sizedOf s)
+  where
+    go : (b : Bool) → Sized (cond b (tripleOf word side mask s) (outcome 5 0 s) .after)
+    go true = sized-triple word side mask s h
+    go false = h
+
+-- a run from anywhere keeps them
+pub sized-from : (budget : ℕ) (ws : List ℕ) (n k : ℕ) (s : State) → Sized s → Sized (runFrom budget ws n k s .after)
+unfolding runFrom
+sized-from budget [] n k s h = h
+sized-from budget (w ∷ []) n k s h = h
+sized-from budget (w ∷ side ∷ []) n k s h = h
+sized-from budget (w ∷ side ∷ mask ∷ ws) n k s h =
+    let o : Outcome = tripleOf w side mask s in
+    let g : Sized (o .after) = sized-triple w side mask s h in
+    turn (λ (r : RunOutcome). Sized (r .after)) budget n (o .number)
+    (ended 7 n k s) (runFrom budget ws (n + 1) (k + o .accesses) (o .after)) (ended (o .number) n k (o .after))
+    (λ e. h) (λ e z. sized-from budget ws (n + 1) (k + o .accesses) (o .after) g) (λ e z. g)
+
+-- the state after a list call has the right lengths if the one before it has
+pub sized-run : (budget : ℕ) (ws : List ℕ) (s : State) → Sized s → Sized (runOf budget ws s .after)
+unfolding runOf
+sized-run budget ws s h = go (sizedOf s) (eqb (length ws % 3) 0)
+  where
+    go : (b c : Bool) → Sized (cond b (cond c (runFrom budget ws 0 0 s) (ended 6 0 0 s)) (ended 5 0 0 s) .after)
+    go true true = sized-from budget ws 0 0 s h
+    go true false = h
+    go false c = h

@@ -1,0 +1,12 @@
+-- What a reader must believe: the state, the places, each instruction's meaning, a step and a run.
+pub mod State
+pub mod Place
+pub mod Prog
+pub mod Address
+pub mod Vector
+pub mod Step
+pub mod Run
+pub mod Table
+pub mod Demand
+pub mod Number
+pub mod Swap

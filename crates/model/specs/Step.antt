@@ -1,0 +1,68 @@
+-- One triple: word, side index, side mask word. Document 01, "Answer numbers".
+use Prim.Native.Nat.{ℕ}
+use mathlib.Core.Bool.{cond}
+use mathlib.Core.List.{[]}
+use Rattle.words.specs.Table.{decodeOf}
+use Rattle.words.specs.declared.Refusal.{Refusal}
+use Rattle.words.specs.declared.Refusal.the-variants.{Foreign, Undocumented, SideIndex, SideMask}
+use Rattle.words.specs.declared.Insn.{Insn}
+use Rattle.words.specs.declared.Insn.the-variants as N
+use Rattle.words.specs.declared.Decoded.{Decoded}
+use Rattle.words.specs.declared.Decoded.the-variants as D
+use Rattle.model.specs.State.{State, sizedOf}
+use Rattle.model.specs.Place.{Xlat, xlat}
+use Rattle.model.specs.Prog.{Prog, ret, _>>=_, run, puts, Did, Done, Counts, only, done}
+use Rattle.model.specs.Address.{address}
+use Rattle.model.specs.Vector.{vector}
+
+abbrev pub did : Insn → Prog Did
+did (N.Address i) = address i
+did (N.Vector i) = vector i
+-- 0xbf and 0xdf change nothing
+did N.Nop = ret (only [])
+
+abbrev pub sem : Insn → Prog Done
+sem i = did i >>= (λ d. ret (done d))
+
+-- demand 2: the state after an accepted instruction, and its counts, under a translation
+abbrev pub stepX : Xlat → Insn → State → State
+stepX X i s = puts X (run X (sem i) s .writes) s
+
+abbrev pub countsX : Xlat → Insn → State → Counts
+countsX X i s = run X (sem i) s .counts
+
+-- the same under document 01's translation. Contracts cite these two
+unfoldable pub stepped : Insn → State → State
+stepped i s = stepX xlat i s
+
+unfoldable pub entered : Insn → State → ℕ
+entered i s = countsX xlat i s .accesses
+
+-- what a call for one triple leaves: the answer's number, the cell accesses, the six pieces
+pub record Outcome : Type 0 where
+  pub number : ℕ
+  pub accesses : ℕ
+  pub after : State
+
+abbrev pub outcome : ℕ → ℕ → State → Outcome
+outcome n k s = record { number = n; accesses = k; after = s }
+
+-- the paper's number of each refusal of a triple
+abbrev pub refusal : Refusal → ℕ
+refusal Foreign = 1
+refusal Undocumented = 2
+refusal SideIndex = 3
+refusal SideMask = 4
+
+-- 0: done. A refused instruction changes nothing and counts nothing
+abbrev pub byDecoded : Decoded → State → Outcome
+byDecoded (D.Insn i) s = outcome 0 (entered i s) (stepped i s)
+byDecoded (D.Refused k) s = outcome (refusal k) 0 s
+
+-- one triple on pieces of right lengths
+unfoldable pub tripleOf : ℕ → ℕ → ℕ → State → Outcome
+tripleOf word side mask s = byDecoded (decodeOf word side mask) s
+
+-- the single call: 5 where a piece has another length
+unfoldable pub stepOf : ℕ → ℕ → ℕ → State → Outcome
+stepOf word side mask s = cond (sizedOf s) (tripleOf word side mask s) (outcome 5 0 s)

@@ -1,0 +1,21 @@
+-- `opcodes::cases::opcodes` is safe and ends.
+use Prim.Native.Nat.{_-_}
+use borrow.Author.Needs.{needs}
+use Rattle.opcodes.proofs.cases.opcodes.Statement.{statement}
+use Rattle.opcodes.proofs.cases.opcodes.Tie as tie
+
+abbrev Inv-loop : tie.InvT-loop
+Inv-loop _ _ _ _ _ _ _ _ _ _ _ _ _ _ = Unit {0}
+
+abbrev μ-loop : tie.MeasureT-loop
+μ-loop _ _ _ _ _ _ _ _ _ _ _ _ _ op = 0xe0 - op
+
+pub opcodes-spec : {M : Type 1} → statement M
+opcodes-spec = tie.close (tie.spec Inv-loop μ-loop
+    (λ c. search needs)
+    (λ c κs. search needs)
+    (λ c κs. search needs)
+    (λ c. search needs)
+    (λ c. search needs)
+    (λ c. search needs)
+    (λ c. search needs))

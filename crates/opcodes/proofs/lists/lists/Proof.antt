@@ -1,0 +1,21 @@
+-- `opcodes::lists::lists` is safe and ends.
+use Prim.Native.Nat.{_-_}
+use borrow.Author.Needs.{needs}
+use Rattle.opcodes.proofs.lists.lists.Statement.{statement}
+use Rattle.opcodes.proofs.lists.lists.Tie as tie
+
+abbrev Inv-loop : tie.InvT-loop
+Inv-loop _ _ _ _ _ _ _ _ _ _ _ _ _ _ _ _ _ _ _ = Unit {0}
+
+abbrev μ-loop : tie.MeasureT-loop
+μ-loop _ _ _ _ _ _ _ _ _ _ _ _ _ _ _ _ _ _ j = 1024 - j
+
+pub lists-spec : {M : Type 1} → statement M
+lists-spec = tie.close (tie.spec Inv-loop μ-loop
+    (λ c κs. search needs)
+    (λ c. search needs)
+    (λ c κs. search needs)
+    (λ c. search needs)
+    (λ c. search needs)
+    (λ c. search needs)
+    (λ c. search needs))

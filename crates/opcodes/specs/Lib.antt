@@ -1,0 +1,2 @@
+-- What the contracts of the calls cite.
+pub mod Room

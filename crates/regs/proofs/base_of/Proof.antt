@@ -1,0 +1,16 @@
+-- `regs::base_of` meets its contract.
+use mathlib.Core.Path.{refl}
+use borrow.Author.Needs.{needs}
+use Rattle.regs.specs.Regs.{baseOf}
+use Rattle.regs.proofs.base_of.Statement.{statement}
+use Rattle.regs.proofs.base_of.Tie as tie
+
+pub base-of-spec : {M : Type 1} → statement M
+unfolding baseOf
+base-of-spec =
+    tie.close
+    (tie.spec
+    (λ c. search needs)
+    (λ c. search needs)
+    (λ c. search needs)
+    (λ c. refl))

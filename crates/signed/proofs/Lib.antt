@@ -1,0 +1,3 @@
+-- Laws of small signed numbers.
+pub mod Z
+pub mod Shift

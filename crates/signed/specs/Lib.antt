@@ -1,0 +1,2 @@
+-- Small signed numbers.
+pub mod Signed

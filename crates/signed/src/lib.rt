@@ -1,0 +1,67 @@
+// Small signed numbers: bytes read as signed ones, clipped, shifted, and cut to bytes again.
+ghost use mathlib.Core.Path.{_≡_};
+ghost use mathlib.Core.Bool.{cond};
+ghost use Prim.Native.Nat.{_<_};
+ghost use lib.IntN.{natAbs};
+ghost use lib.Signed.{mag};
+ghost use Rattle.signed.specs.Signed.{sext, widen, low, clip, shifted};
+
+// A value in place of an `if` whose arms meet.
+pub fn pick(t: bool, a: i32, b: i32) -> i32
+    ensures { λ r. ⌜ r ≡ cond t a b ⌝ }
+{
+    if t { a } else { b }
+}
+
+// The low k + 1 bits of x, of which bit k is the sign.
+pub fn sext(x: u32, k: u32) -> i32
+    requires { ⌜ k < 16 ⌝ }
+    ensures { λ r. ⌜ r ≡ sext x k ⌝ }
+{
+    let full = 2u32 << k;
+    let n = x & (full - 1);
+    if n < full / 2 {
+        n as i32
+    } else {
+        n as i32 - full as i32
+    }
+}
+
+pub fn widen(signed: bool, x: u8) -> i32
+    ensures { λ r. ⌜ r ≡ widen signed x ⌝ }
+{
+    if signed { sext(x as u32, 7) } else { x as i32 }
+}
+
+pub fn low8(z: i32) -> u8
+    ensures { λ r. ⌜ r ≡ low 8 z ⌝ }
+{
+    (z & 0xff) as u8
+}
+
+pub fn low16(z: i32) -> u16
+    ensures { λ r. ⌜ r ≡ low 16 z ⌝ }
+{
+    (z & 0xffff) as u16
+}
+
+pub fn clip(lo: i32, hi: i32, z: i32) -> i32
+    ensures { λ r. ⌜ r ≡ clip lo hi z ⌝ }
+{
+    pick(z < lo, lo, pick(hi < z, hi, z))
+}
+
+pub fn magnitude(z: i32) -> u32
+    requires { ⌜ mag z < 256 ⌝ }
+    ensures { λ r. ⌜ r ≡ natAbs z ⌝ }
+{
+    if z < 0 { -z as u32 } else { z as u32 }
+}
+
+// A negative count shifts left.
+pub fn shifted(s: i32, n: i32) -> i32
+    requires { ⌜ (mag s < 256) × (mag n < 8) ⌝ }
+    ensures { λ r. ⌜ r ≡ shifted s n ⌝ }
+{
+    if n < 0 { s << -n } else { s >> n }
+}

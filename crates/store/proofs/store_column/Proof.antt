@@ -1,0 +1,23 @@
+-- The scattered ring is the column's places.
+use mathlib.Core.Path.{ap, _∙_}
+use mathlib.Core.List.{List}
+use Prim.Native.Nat.{ℕ}
+use borrow.Author.Needs.{needs}
+use Rattle.store.specs.Ring.{ring}
+use Rattle.store.specs.Store.{stored}
+use Rattle.store.proofs.store_column.Statement.{statement}
+use Rattle.store.proofs.store_column.Tie as tie
+
+pub store-column-spec : {M : Type 1} → statement M
+store-column-spec =
+    tie.close
+    (tie.spec
+    (λ c κs. search needs)
+    (λ c. search needs)
+    (λ c κs. search needs)
+    (λ c. search needs)
+    (λ c.
+    let s = c .before .before .before .before .before .before .before in
+    c .before .before .scatter .ensures
+    ∙ ap (λ (ps : List ℕ). stored (s .args .ds .now) ps (s .args .t4))
+    (ap (ring _) (s .good .1 .1 .1 .0 .1 .0 .1) ∙ c .before .before .before .before .translated .ensures .1)))

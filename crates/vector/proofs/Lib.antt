@@ -1,0 +1,2 @@
+-- The tie to the model.
+pub mod Closed

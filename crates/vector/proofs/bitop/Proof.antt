@@ -1,0 +1,19 @@
+-- `vector::bitop` meets its contract.
+use Rattle.vector.specs.Effect.{vectored}
+use Rattle.words.specs.Bounded.{BoundedV}
+use borrow.Author.Needs.{needs}
+use Rattle.vector.proofs.bitop.Statement.{statement}
+use Rattle.vector.proofs.bitop.Tie as tie
+
+pub bitop-spec : {M : Type 1} → statement M
+unfolding BoundedV vectored
+bitop-spec =
+    tie.close
+    (tie.spec
+    (λ c κs. search needs)
+    (λ c κs. search needs)
+    (λ c κs. search needs)
+    (λ c κs. search needs)
+    (λ c. search needs)
+    (λ c. search needs)
+    (λ c. cc))

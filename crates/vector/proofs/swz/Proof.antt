@@ -1,0 +1,19 @@
+-- `vector::swz` meets its contract.
+use Rattle.vector.specs.Effect.{vectored}
+use Rattle.words.specs.Bounded.{BoundedV}
+use borrow.Author.Needs.{needs}
+use Rattle.vector.proofs.swz.Statement.{statement}
+use Rattle.vector.proofs.swz.Tie as tie
+
+pub swz-spec : {M : Type 1} → statement M
+unfolding BoundedV vectored
+swz-spec =
+    tie.close
+    (tie.spec
+    (λ c κs. search needs)
+    (λ c κs. search needs)
+    (λ c κs. search needs)
+    (λ c κs. search needs)
+    (λ c κs. search needs)
+    (λ c. search needs)
+    (λ c. cc))
