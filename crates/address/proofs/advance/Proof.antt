@@ -1,4 +1,7 @@
 -- `address::advance` meets its contract.
+use mathlib.Core.Path.{refl, ap}
+use Prim.Native.Nat.{ℕ}
+use lib.ListN.{set}
 use borrow.Author.Needs.{needs}
 use Rattle.address.proofs.advance.Statement.{statement}
 use Rattle.address.proofs.advance.Tie as tie
@@ -17,4 +20,8 @@ advance-spec =
     (λ c. search needs)
     (λ c. search needs)
     (λ c. search needs)
-    (λ c. (cc, cc)))
+    (λ c.
+    let s = c .before .before .before .before .before .before .before .before .before .before .before in
+    let b = c .before .before .before .before .before .before .before .base-at .ensures .0 in
+    let x = c .before .before .before .before .before .before .wrapping-add-u16 .ensures in
+    (ap (λ (w : ℕ). set (s .args .a .now) (s .args .n) w) (cc), rw (c .before .before .set-end .ensures, x, b) refl)))
