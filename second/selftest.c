@@ -1,6 +1,7 @@
 /* selftest.c - checks the second simulator against the paper's ten examples, the
  * four lines of the lab program, and, for every address and code, against the
- * address lists written out and counted. Prints nothing and exits 0 if all is well. */
+ * address lists written out and counted; and the places and exchanges against
+ * cases made by hand from the table. Prints nothing and exits 0 if all is well. */
 #include "vp1_second.h"
 
 #include <stdio.h>
@@ -336,6 +337,361 @@ static void lab_lines(void)
     }
 }
 
+/* ---- The places of one instruction ----
+ *
+ * The numbers are written out: 2n and 2n + 1 the halves of $a[n], 64 + n $r[n],
+ * 96 + n $v[n], 128 + 2n and 129 + 2n the flags of $c[n], 136 + 2n and 137 + 2n
+ * those of $vc[n], 144 + i byte i of the store. */
+
+enum { KEPT = 0xabcd }; /* what the buffer holds where nothing is written */
+
+static uint32_t buffer[SECOND_PLACES + 2], reads, writes;
+
+static uint32_t places(uint32_t w, uint32_t side, uint32_t mask, size_t nbuffer)
+{
+    for (int i = 0; i < SECOND_PLACES + 2; i++)
+        buffer[i] = KEPT;
+    return second_places(w, side, mask, ds, sizeof ds, a, SECOND_A, r, SECOND_R,
+                         c, SECOND_C, vc, SECOND_VC, v, sizeof v,
+                         buffer, nbuffer, &reads, &writes);
+}
+
+static void kept_from(uint32_t n, int line)
+{
+    for (uint32_t i = n; i < SECOND_PLACES + 2; i++)
+        check(buffer[i] == KEPT, "the rest of the buffer", line);
+}
+
+static void expect(uint32_t w, uint32_t side, uint32_t mask, uint32_t nreads,
+                   const uint32_t *list, uint32_t n, int line)
+{
+    check(places(w, side, mask, SECOND_PLACES) == 0, "places are answered", line);
+    check(reads == nreads && writes == n - nreads, "the counts", line);
+    for (uint32_t i = 0; i < n; i++)
+        check(buffer[i] == list[i], "the numbers", line);
+    kept_from(n, line);
+}
+
+static void refused(uint32_t w, uint32_t side, uint32_t mask, size_t nbuffer,
+                    uint32_t answer, int line)
+{
+    check(places(w, side, mask, nbuffer) == answer, "the refusal", line);
+    check(reads == 0 && writes == 0, "the counts of a refusal", line);
+    kept_from(0, line);
+}
+
+/* The list: those read, nreads of them, and those written. */
+#define LIST(...) ((const uint32_t[]){ __VA_ARGS__ })
+#define PLACES(w, side, mask, nreads, ...)                         \
+    expect((w), (side), (mask), (nreads), LIST(__VA_ARGS__),       \
+           sizeof LIST(__VA_ARGS__) / sizeof(uint32_t), __LINE__)
+#define NO_PLACES(w) expect((w), 0, 0, 0, NULL, 0, __LINE__)
+#define REFUSED(w, side, mask, nbuffer, answer) \
+    refused((w), (side), (mask), (nbuffer), (answer), __LINE__)
+
+static void places_of_address_instructions(void)
+{
+    clear();
+    PLACES(0xcc181234, 99, 99, 0, 6);
+    PLACES(0xcd181234, 99, 99, 0, 7);
+    PLACES(word(0xcb, 1, 2, 0, 3), 4, 0, 4, 4, 5, 8, 9, 2, 3, 134);
+    PLACES(word(0xcb, 1, 2, 0, 4), 2, 0, 4, 4, 5, 4, 5, 2, 3);
+    PLACES(word(0xd3, 31, 30, 29, 0), 99, 0, 4, 60, 61, 58, 59, 62, 63, 128);
+    PLACES(word(0xca, 5, 9, 9, 1), 5, 0, 3, 10, 11, 10, 10, 131);
+    PLACES(word(0xca, 5, 9, 9, 7), 31, 0, 3, 10, 11, 62, 10);
+    NO_PLACES(word(0xdf, 1, 2, 3, 0));
+}
+
+/* $a2 is the base, the data register is 7. */
+static void places_of_accesses(void)
+{
+    clear();
+    a[2] = 0x00000030; /* also with UIMM 0x20: cell 1, the high half, bank 1 on */
+    PLACES(word(0xd8, 7, 2, 0, 0x20 << 3 | 2), 99, 99, 18, 4, 5,
+           659, 1171, 1683, 2195, 2707, 3219, 3731, 4243,
+           4755, 5267, 5779, 6291, 6803, 7315, 7827, 147, 103, 133);
+    PLACES(word(0xdc, 2, 7, 0, 0x20 << 3 | 2), 99, 99, 3, 4, 5, 103,
+           659, 1171, 1683, 2195, 2707, 3219, 3731, 4243,
+           4755, 5267, 5779, 6291, 6803, 7315, 7827, 147, 133);
+
+    /* The increment, here 0x40, does not change the address. */
+    PLACES(word(0xd0, 7, 2, 1, 7), 99, 99, 18, 4, 5,
+           659, 1171, 1683, 2195, 2707, 3219, 3731, 4243,
+           4755, 5267, 5779, 6291, 6803, 7315, 7827, 147, 103, 4);
+
+    a[2] = 0x00000005; /* the paper's third example */
+    PLACES(word(0xd9, 7, 2, 0, 7), 99, 99, 18, 4, 5,
+           2704, 2705, 3218, 3219, 3732, 3733, 4246, 4247,
+           4760, 4761, 5274, 5275, 5788, 5789, 6302, 6303, 103);
+    PLACES(word(0xdd, 2, 7, 0, 1), 99, 99, 3, 4, 5, 103,
+           2704, 2705, 3218, 3219, 3732, 3733, 4246, 4247,
+           4760, 4761, 5274, 5275, 5788, 5789, 6302, 6303, 131);
+    PLACES(word(0xc5, 2, 7, 0, 0), 2, 99, 4, 4, 5, 4, 103,
+           2704, 2705, 3218, 3219, 3732, 3733, 4246, 4247,
+           4760, 4761, 5274, 5275, 5788, 5789, 6302, 6303, 4, 129);
+    PLACES(word(0xc1, 7, 2, 0, 0), 31, 99, 19, 4, 5, 62,
+           2704, 2705, 3218, 3219, 3732, 3733, 4246, 4247,
+           4760, 4761, 5274, 5275, 5788, 5789, 6302, 6303, 103, 4, 129);
+
+    a[2] = 0x80000123; /* code 2: 0x120 is in bank 4, cell 9, the low half */
+    PLACES(word(0xda, 7, 2, 0, 7), 99, 99, 6, 4, 5, 2210, 2722, 3234, 3746, 71);
+    PLACES(word(0xde, 2, 7, 0, 3), 99, 99, 3, 4, 5, 71, 2210, 2722, 3234, 3746, 135);
+    PLACES(word(0xc2, 7, 2, 0, 3), 1, 99, 7, 4, 5, 2, 2210, 2722, 3234, 3746, 71, 4, 135);
+    PLACES(word(0xc6, 2, 7, 0, 7), 1, 99, 4, 4, 5, 2, 71, 2210, 2722, 3234, 3746, 4);
+    PLACES(word(0xd2, 7, 2, 0, 3), 99, 99, 6, 4, 5, 2210, 2722, 3234, 3746, 71, 4, 135);
+    PLACES(word(0xd6, 2, 7, 0, 7), 99, 99, 3, 4, 5, 71, 2210, 2722, 3234, 3746, 4);
+}
+
+static void places_of_vector_instructions(void)
+{
+    clear();
+    PLACES(word(0x88, 1, 2, 3, 0), 99, 0x20000, 2, 98, 99, 97, 136, 137);
+    PLACES(word(0xa8, 1, 2, 3, 0), 99, 0x20000, 1, 98, 97, 136, 137);
+    PLACES(word(0x8d, 1, 1, 1, 4), 0, 0, 2, 97, 97, 97);
+    PLACES(word(0xbe, 31, 0, 3, 3), 0, 0, 1, 96, 127, 142, 143);
+    PLACES(word(0x8a, 1, 2, 3, 1), 0, 0, 1, 98, 97, 138, 139);
+    PLACES(word(0xaf, 1, 2, 3, 1), 0, 0, 1, 98, 97, 138, 139);
+    PLACES(word(0xba, 1, 2, 3, 7), 0, 0, 1, 98, 97);
+    PLACES(word(0xa4, 1, 2, 3, 4 << 4 | 3), 0, 0, 3, 98, 99, 100, 97, 142, 143);
+    PLACES(word(0x9f, 1, 2, 3, 4 << 4 | 3), 0, 0, 3, 98, 99, 100, 97, 142, 143);
+    PLACES(word(0x94, 1, 2, 3, 2), 0, 0, 2, 98, 99, 97, 140, 141);
+    PLACES(word(0xa5, 1, 2, 3, 2), 0, 0, 2, 98, 99, 97, 140, 141);
+    PLACES(word(0x9b, 1, 2, 3, 4 << 4), 0, 0, 3, 98, 99, 100, 97);
+    PLACES(word(0xad, 1, 2, 3, 0), 0, 0, 0, 97, 136, 137);
+    PLACES(word(0xad, 1, 2, 3, 5), 0, 0, 0, 97);
+    PLACES(word(0xbb, 1, 2, 3, 0), 0, 0, 8, 136, 137, 138, 139, 140, 141, 142, 143, 97);
+    NO_PLACES(word(0xbf, 1, 2, 3, 0));
+
+    /* vcmpad: $v2 and $v3, then $v3 twice; the input is $vc1's signs. */
+    PLACES(word(0x8f, 1, 2, 4, 1), 99, 0xffff, 4, 98, 99, 100, 138, 138, 139);
+    PLACES(word(0x8f, 1, 3, 4, 1), 99, 0x10000, 3, 99, 99, 100, 138, 139);
+    PLACES(word(0x8f, 1, 2, 4, 5), 99, 0, 4, 98, 99, 100, 138);
+    PLACES(word(0x8f, 1, 2, 4, 5), 99, 0x1ffff, 3, 98, 99, 100);
+}
+
+/* How many places the opcodes 0x88 to 0x8f, 0x98 to 0x9f and so on read, a digit each. */
+static void reads_of_every_vector_opcode(void)
+{
+    static const char *const rows[4] = { "22112224", "22132223", "11111011", "11181110" };
+
+    clear();
+    for (uint32_t i = 0; i < 32; i++) {
+        CHECK(places((0x88 + i / 8 * 16 + i % 8) << 24, 0, 0, SECOND_PLACES) == 0);
+        CHECK(reads == (uint32_t)(rows[i / 8][i % 8] - '0'));
+    }
+}
+
+/* Each buffer that is too short is refused before the opcode is looked at. */
+static void refusals_of_places(void)
+{
+    uint32_t setlo = 0xcc181234, cmpad = word(0x8f, 1, 2, 3, 0);
+
+    clear();
+    REFUSED(setlo, 0, 0, SECOND_PLACES - 1, 5);
+    REFUSED(setlo, 0, 0, 0, 5);
+    REFUSED(0x7f000000, 0, 0, SECOND_PLACES - 1, 5);
+    REFUSED(0x7f000000, 32, 0x20000, SECOND_PLACES, 1);
+    REFUSED(0xe0000000, 32, 0x20000, SECOND_PLACES, 1);
+    REFUSED(0x80000000, 32, 0x20000, SECOND_PLACES, 2);
+    REFUSED(0xdb000000, 32, 0x20000, SECOND_PLACES, 2);
+    REFUSED(word(0xc0, 1, 2, 3, 0), 32, 0, SECOND_PLACES, 3);
+    REFUSED(word(0xcb, 1, 2, 3, 0), 0xffffffff, 0, SECOND_PLACES, 3);
+    REFUSED(cmpad, 32, 0x20000, SECOND_PLACES, 4);
+    REFUSED(cmpad | 7, 32, 0xffffffff, SECOND_PLACES, 4);
+    CHECK(places(setlo, 32, 0x20000, SECOND_PLACES + 2) == 0 && writes == 1);
+    for (int i = 0; i < 12; i++) {
+        size_t n[6] = { SECOND_DS, SECOND_A, SECOND_R, SECOND_C, SECOND_VC, SECOND_V };
+
+        n[i / 2] += i % 2 ? 1 : (size_t)-1;
+        CHECK(second_places(setlo, 0, 0, ds, n[0], a, n[1], r, n[2], c, n[3], vc, n[4],
+                            v, n[5], buffer, SECOND_PLACES, &reads, &writes) == 5);
+    }
+}
+
+/* Which opcodes are refused, and with what: as one step does it. */
+static void places_refuse_as_a_step_does(void)
+{
+    static const uint32_t sides[3] = { 0, 31, 32 }, masks[3] = { 0, 0x1ffff, 0x20000 };
+
+    clear();
+    for (uint32_t op = 0; op < 256; op++)
+        for (int i = 0; i < 9; i++) {
+            uint32_t side = sides[i % 3], mask = masks[i / 3];
+
+            CHECK(places(op << 24 | 7, side, mask, SECOND_PLACES) ==
+                  step(op << 24 | 7, side, mask));
+        }
+}
+
+/* The bytes of every address and code, with $a2 as the base. */
+static void every_byte_place(enum way way)
+{
+    struct place list[16];
+
+    clear();
+    for (uint32_t code = 0; code < 4; code++)
+        for (uint32_t addr = 0; addr < 0x10000; addr++) {
+            int n = address_list(way, addr, code, list);
+
+            a[2] = addr | code << 30;
+            CHECK(places(word(0xd8 + (uint32_t)way, 1, 2, 0, 7), 0, 0, SECOND_PLACES) == 0);
+            CHECK(reads == 2 + (uint32_t)n && writes == 1);
+            for (int i = 0; i < n; i++)
+                CHECK(buffer[2 + i] == 144 + offset(list[i]));
+        }
+}
+
+/* ---- Two instructions ---- */
+
+struct triple { uint32_t word, side, mask; };
+
+static uint32_t clash, place, writer;
+
+static uint32_t may_swap(struct triple t1, struct triple t2)
+{
+    return second_may_swap(t1.word, t1.side, t1.mask, t2.word, t2.side, t2.mask,
+                           ds, sizeof ds, a, SECOND_A, r, SECOND_R, c, SECOND_C,
+                           vc, SECOND_VC, v, sizeof v, &clash, &place, &writer);
+}
+
+static struct triple by(uint32_t w, uint32_t side, uint32_t mask)
+{
+    return (struct triple){ w, side, mask };
+}
+
+static struct triple plain(uint32_t w) { return by(w, 0, 0); }
+
+static void verdict(struct triple t1, struct triple t2, uint32_t answer,
+                    uint32_t expected_place, uint32_t expected_writer, int line)
+{
+    check(may_swap(t1, t2) == answer, "the answer", line);
+    check(clash == (expected_writer != 0), "whether they clash", line);
+    check(place == expected_place && writer == expected_writer, "where they clash", line);
+}
+
+#define FREE(t1, t2) verdict((t1), (t2), 0, 0, 0, __LINE__)
+#define CLASH(t1, t2, place, writer) verdict((t1), (t2), 0, (place), (writer), __LINE__)
+#define NO_VERDICT(t1, t2, answer) verdict((t1), (t2), (answer), 0, 0, __LINE__)
+
+static void exchanges_of_address_registers(void)
+{
+    struct triple setlo = plain(0xcc181234), sethi = plain(0xcd181234); /* of $a3 */
+    struct triple aadd = by(word(0xca, 3, 0, 0, 0), 4, 0);
+    struct triple add = by(word(0xcb, 1, 2, 0, 0), 3, 0);
+
+    clear();
+    FREE(setlo, sethi);
+    CLASH(setlo, setlo, 6, 1);
+    CLASH(sethi, sethi, 7, 1);
+    CLASH(sethi, aadd, 7, 1);
+    CLASH(aadd, sethi, 7, 2);
+    CLASH(aadd, setlo, 6, 1);
+    CLASH(add, setlo, 6, 2);
+    CLASH(add, sethi, 7, 2);
+
+    /* SRC2S gives only its low half to aadd, and both to add. */
+    FREE(by(word(0xca, 5, 0, 0, 0), 3, 0), sethi);
+    CLASH(by(word(0xca, 5, 0, 0, 0), 3, 0), setlo, 6, 2);
+
+    /* The long pair and the short bit of one $c are two places. */
+    FREE(add, by(word(0xca, 5, 0, 0, 0), 6, 0));
+    CLASH(add, by(word(0xcb, 5, 6, 0, 0), 7, 0), 128, 1);
+    CLASH(by(word(0xca, 5, 0, 0, 1), 6, 0), by(word(0xca, 7, 0, 0, 1), 6, 0), 131, 1);
+    FREE(by(word(0xca, 5, 0, 0, 4), 6, 0), by(word(0xca, 7, 0, 0, 4), 6, 0));
+
+    /* The first of several: $a3's low half is in the list before its high half, and
+     * what the first instruction writes comes before what the second does. */
+    CLASH(by(word(0xcb, 3, 2, 0, 0), 1, 0), by(word(0xcb, 2, 3, 0, 0), 1, 0), 6, 1);
+    FREE(plain(0xdf000000), plain(0xdf000000));
+}
+
+static void exchanges_of_vector_registers(void)
+{
+    struct triple vmov = plain(word(0xad, 3, 0, 0, 2)), from_vc = plain(word(0xbb, 1, 0, 0, 0));
+    uint32_t cmpad = word(0x8f, 0, 4, 6, 6); /* writes nothing; its input is $vc2 */
+
+    clear();
+    CLASH(vmov, vmov, 99, 1);
+    CLASH(vmov, plain(word(0x88, 1, 2, 3, 7)), 99, 1);
+    CLASH(plain(word(0x88, 1, 2, 3, 7)), vmov, 99, 2);
+    FREE(plain(word(0xa8, 1, 2, 3, 7)), vmov); /* these bits are BIMM's */
+    CLASH(plain(word(0x9b, 1, 2, 2, 3 << 4)), vmov, 99, 2);
+    CLASH(plain(word(0xad, 5, 0, 0, 7)), plain(cmpad), 101, 1);
+
+    CLASH(vmov, plain(word(0xad, 4, 0, 0, 2)), 140, 1);
+    CLASH(vmov, from_vc, 140, 1);
+    CLASH(from_vc, vmov, 140, 2);
+    FREE(vmov, plain(word(0xad, 4, 0, 0, 3)));
+    CLASH(vmov, plain(cmpad), 140, 1);
+    CLASH(plain(cmpad), vmov, 140, 2);
+    FREE(by(cmpad, 0, 0x10000), vmov);
+    FREE(plain(cmpad), plain(cmpad));
+}
+
+/* $a1 and $a2 are the bases; flags are written by none. */
+static void exchanges_of_accesses(void)
+{
+    uint32_t lds = word(0xda, 7, 1, 0, 7), sts = word(0xde, 2, 8, 0, 7);
+    struct triple ldvh = plain(word(0xd8, 7, 1, 0, 7)), stvv = plain(word(0xdd, 2, 8, 0, 7));
+
+    clear();
+    CLASH(plain(sts), plain(lds), 144, 1);
+    CLASH(plain(lds), plain(sts), 144, 2);
+    CLASH(plain(sts), plain(sts), 144, 1);
+    FREE(plain(lds), plain(word(0xda, 8, 2, 0, 7)));
+    CLASH(plain(lds), plain(lds), 71, 1);
+    CLASH(plain(lds), plain(word(0xde, 2, 7, 0, 4 << 3 | 7)), 71, 1);
+
+    /* ldavh: its register, then its base. */
+    CLASH(plain(word(0xd0, 7, 1, 0, 7)), ldvh, 103, 1);
+    CLASH(plain(word(0xd0, 6, 1, 0, 7)), ldvh, 2, 1);
+    CLASH(plain(lds), plain(word(0xd0, 6, 1, 0, 7)), 2, 2);
+    FREE(plain(word(0xd0, 6, 2, 0, 7)), ldvh);
+
+    a[2] = 4;
+    FREE(plain(sts), plain(lds));
+    CLASH(plain(sts), ldvh, 144 + 4 * 512, 1);
+
+    /* One byte in common: a row and a column, the same address and code. The
+     * column's other bytes lie in other rows. */
+    a[1] = 0x40000020;
+    a[2] = 0x40000023;
+    CLASH(stvv, ldvh, 144 + 4 * 512 + 2, 1);
+    CLASH(ldvh, stvv, 144 + 4 * 512 + 2, 2);
+    a[2] = 0x40000223; /* sixteen rows further down */
+    FREE(stvv, ldvh);
+
+    /* One byte of the store under two codes: bank 1, cell 1 is address 0x20 under
+     * code 1, and under code 2 address 0x21, of the word at 0x20. */
+    a[2] = 0x80000020;
+    CLASH(plain(sts), plain(lds), 144 + 512 + 2, 1);
+}
+
+static void refusals_of_exchanges(void)
+{
+    struct triple good = plain(0xcc181234), one = plain(0x7f000000), two = plain(0xc3000000);
+    struct triple three = by(word(0xca, 1, 0, 0, 0), 32, 0);
+    struct triple four = by(word(0x8f, 0, 1, 2, 7), 0, 0x20000);
+
+    clear();
+    NO_VERDICT(one, two, 1);
+    NO_VERDICT(two, one, 2);
+    NO_VERDICT(good, one, 1);
+    NO_VERDICT(three, four, 3);
+    NO_VERDICT(four, three, 4);
+    NO_VERDICT(good, three, 3);
+    NO_VERDICT(four, good, 4);
+    for (int i = 0; i < 12; i++) {
+        size_t n[6] = { SECOND_DS, SECOND_A, SECOND_R, SECOND_C, SECOND_VC, SECOND_V };
+
+        n[i / 2] += i % 2 ? 1 : (size_t)-1;
+        clash = place = writer = KEPT;
+        CHECK(second_may_swap(one.word, 0, 0, good.word, 0, 0, ds, n[0], a, n[1], r, n[2],
+                              c, n[3], vc, n[4], v, n[5], &clash, &place, &writer) == 5);
+        CHECK(clash == 0 && place == 0 && writer == 0);
+    }
+}
+
 int main(void)
 {
     examples_1_to_3();
@@ -351,5 +707,17 @@ int main(void)
         every_store((enum way)way);
     }
     counts_of_the_adding_forms();
+    places_of_address_instructions();
+    places_of_accesses();
+    places_of_vector_instructions();
+    reads_of_every_vector_opcode();
+    refusals_of_places();
+    places_refuse_as_a_step_does();
+    for (int way = HORIZONTAL; way <= SCALAR; way++)
+        every_byte_place((enum way)way);
+    exchanges_of_address_registers();
+    exchanges_of_vector_registers();
+    exchanges_of_accesses();
+    refusals_of_exchanges();
     return failures == 0 ? 0 : 1;
 }

@@ -1,5 +1,6 @@
 /* vp1_second.h - the calls of the second simulator of VP1's address and vector
- * units: one step, or a list of steps, over six pieces lent by the caller. */
+ * units: one step, or a list of steps, over six pieces lent by the caller; and the
+ * places that an instruction reads and writes. */
 #ifndef VP1_SECOND_H
 #define VP1_SECOND_H
 
@@ -39,5 +40,42 @@ uint32_t second_run(const uint32_t *words, size_t nwords, uint32_t budget,
                     uint32_t *r, size_t nr, uint32_t *c, size_t nc,
                     uint32_t *vc, size_t nvc, uint8_t *v, size_t nv,
                     uint32_t *steps, uint64_t *accesses);
+
+/* ---- Places ---- */
+
+/* A place is what an instruction reads or writes as a whole. It has a number: its
+ * kind's first number, plus its index among that kind. */
+enum {
+    SECOND_PLACE_A = 0,    /* 2n the low half of $a[n], 2n + 1 the high half */
+    SECOND_PLACE_R = 64,
+    SECOND_PLACE_V = 96,
+    SECOND_PLACE_C = 128,  /* 2n the long pair of $c[n], 2n + 1 the short bit */
+    SECOND_PLACE_VC = 136, /* 2n the signs of $vc[n], 2n + 1 the zeros */
+    SECOND_PLACE_DS = 144  /* by the index in the store */
+};
+
+enum { SECOND_PLACES = 22 }; /* no instruction has more */
+
+/* The places that the triple reads, then those that it writes, into the buffer, and
+ * how many there are of each. Returns 0, or 5 (also for a buffer shorter than
+ * SECOND_PLACES), or 1 to 4 as a step does; if not 0, both counts are 0 and the
+ * buffer is as it was. */
+uint32_t second_places(uint32_t word, uint32_t side, uint32_t mask,
+                       const uint8_t *ds, size_t nds, const uint32_t *a, size_t na,
+                       const uint32_t *r, size_t nr, const uint32_t *c, size_t nc,
+                       const uint32_t *vc, size_t nvc, const uint8_t *v, size_t nv,
+                       uint32_t *buffer, size_t nbuffer,
+                       uint32_t *reads, uint32_t *writes);
+
+/* Whether neither of two triples, both met in this state, writes a place that the
+ * other reads or writes (clash 0), or which place they clash at first and which of
+ * them writes it (clash 1, writer 1 or 2). Returns 0, or 5, or 1 to 4 for the first
+ * triple, or 1 to 4 for the second; if not 0, all three numbers are 0. */
+uint32_t second_may_swap(uint32_t word1, uint32_t side1, uint32_t mask1,
+                         uint32_t word2, uint32_t side2, uint32_t mask2,
+                         const uint8_t *ds, size_t nds, const uint32_t *a, size_t na,
+                         const uint32_t *r, size_t nr, const uint32_t *c, size_t nc,
+                         const uint32_t *vc, size_t nvc, const uint8_t *v, size_t nv,
+                         uint32_t *clash, uint32_t *place, uint32_t *writer);
 
 #endif

@@ -121,6 +121,33 @@ static int one_run(struct pieces *p, struct pieces *q, int turn)
     return differ("vp1_run", turn, p, q, x == y && steps == turns && k == m);
 }
 
+/* Which places a triple touches, and whether two may be swapped: the pieces stay as they are. */
+static int one_places(struct pieces *p, struct pieces *q, int turn)
+{
+    uint32_t w[3], b[VP1_PLACES + 2], d[VP1_PLACES + 2];
+    size_t room = draw() % 16 != 0 ? VP1_PLACES + draw() % 3 : draw() % VP1_PLACES;
+    struct lengths n = some_lengths();
+    uint32_t reads = draw(), writes = draw(), rs = draw(), ws = draw();
+    triple(w);
+    for (size_t i = 0; i < VP1_PLACES + 2; i++)
+        b[i] = d[i] = draw();
+    uint32_t x = vp1_places(w[0], w[1], w[2], p->ds, n.ds, p->a, n.a, p->r, n.r, p->c, n.c, p->vc, n.vc, p->v, n.v, b, room, &reads, &writes);
+    uint32_t y = second_places(w[0], w[1], w[2], q->ds, n.ds, q->a, n.a, q->r, n.r, q->c, n.c, q->vc, n.vc, q->v, n.v, d, room, &rs, &ws);
+    return differ("vp1_places", turn, p, q, x == y && reads == rs && writes == ws && memcmp(b, d, sizeof b) == 0);
+}
+
+static int one_swap(struct pieces *p, struct pieces *q, int turn)
+{
+    uint32_t w[6];
+    struct lengths n = some_lengths();
+    uint32_t clash = draw(), place = draw(), writer = draw(), k = draw(), m = draw(), l = draw();
+    triple(w);
+    triple(w + 3);
+    uint32_t x = vp1_may_swap(w[0], w[1], w[2], w[3], w[4], w[5], p->ds, n.ds, p->a, n.a, p->r, n.r, p->c, n.c, p->vc, n.vc, p->v, n.v, &clash, &place, &writer);
+    uint32_t y = second_may_swap(w[0], w[1], w[2], w[3], w[4], w[5], q->ds, n.ds, q->a, n.a, q->r, n.r, q->c, n.c, q->vc, n.vc, q->v, n.v, &k, &m, &l);
+    return differ("vp1_may_swap", turn, p, q, x == y && clash == k && place == m && writer == l);
+}
+
 int main(void)
 {
     static struct pieces p, q;
@@ -132,6 +159,8 @@ int main(void)
         if (one_step(&p, &q, turn))
             return EXIT_FAILURE;
         if (turn % 8 == 0 && one_run(&p, &q, turn))
+            return EXIT_FAILURE;
+        if (one_places(&p, &q, turn) || one_swap(&p, &q, turn))
             return EXIT_FAILURE;
     }
     return EXIT_SUCCESS;

@@ -1,5 +1,6 @@
 // What the program's argument asks for.
 use crate::cases::documented;
+use draws::digits;
 
 pub enum Asked {
     // No argument: all four parts.
@@ -7,15 +8,6 @@ pub enum Asked {
     Opcode(u32),
     Lists,
     Unknown,
-}
-
-// A hexadecimal digit's number, or 16.
-fn digit(b: u8) -> u32 {
-    match b {
-        b'0'..=b'9' => (b - b'0') as u32,
-        b'a'..=b'f' => (b - b'a') as u32 + 10,
-        _ => 16,
-    }
 }
 
 fn opcode_of(high: u32, low: u32) -> Asked {
@@ -45,7 +37,7 @@ pub fn asked_for() -> Asked {
     let mut word = [0u8; 6];
     let n = os::arg(1, &mut word);
     match n {
-        2 => opcode_of(digit(word[0]), digit(word[1])),
+        2 => opcode_of(digits::value(word[0]), digits::value(word[1])),
         5 => lists_of(word),
         _ => Asked::Unknown,
     }

@@ -1,21 +1,8 @@
 // The two calls of the library, with each piece lent at its right length, or with one piece lent one element short or one too long.
-ghost use Prim.Native.Nat.{_+_, _≤_, _<_};
+ghost use Prim.Native.Nat.{_≤_};
 ghost use lib.ListN.{length};
-ghost use Rattle.opcodes.specs.Room.{Room};
-
-// No piece is lent at a wrong length.
-pub const RIGHT: u32 = 12;
-
-// The length at which a piece of the right length n is lent: the piece wrong / 2 is lent one short (wrong even) or one too long (odd).
-fn lent(wrong: u32, piece: u32, n: usize) -> usize
-    requires { ⌜ (0 < n) × (n < 8193) ⌝ }
-    ensures { λ r. ⌜ r ≤ n + 1 ⌝ }
-{
-    if wrong / 2 != piece {
-        return n;
-    }
-    if wrong % 2 == 0 { n - 1 } else { n + 1 }
-}
+ghost use Rattle.draws.specs.Room.{Room};
+use draws::lengths::lent;
 
 // What the library's call answers, and the numbers that it reports.
 pub struct Told {

@@ -1,19 +1,21 @@
 // Part 1 of docs/OPCODES.md: each documented opcode, 2,048 cases.
 use crate::calls;
 use crate::calls::Told;
-use crate::chance::Inputs;
-use crate::chance::Run;
-use crate::chance::draw;
-use crate::chance::mix;
-use crate::chance::seed;
 use crate::fields;
 use crate::fields::DST;
 use crate::fields::SRC1;
 use crate::fields::SRC2;
 use crate::fields::SRC3;
-use crate::pieces;
-use crate::pieces::Kind;
-use crate::print;
+use crate::near;
+use draws::chance::Inputs;
+use draws::chance::Run;
+use draws::chance::draw;
+use draws::chance::mix;
+use draws::chance::seed;
+use draws::lengths::RIGHT;
+use draws::pieces;
+use draws::pieces::Kind;
+use draws::print;
 
 fn draw_inputs(x: u64, op: u32) -> Inputs {
     let rest = draw(x);
@@ -72,7 +74,7 @@ fn bent_pieces(
 ) -> u64 {
     match k % 16 {
         11 | 14 => pieces::draw_bytes(x, v, 512, Kind::Edge),
-        12 | 13 => pieces::near_words(x, a, fields::uimm(word)),
+        12 | 13 => near::near_words(x, a, fields::uimm(word)),
         15 => {
             let y = pieces::draw_words(x, a, 32, Kind::Edge);
             pieces::draw_words(y, r, 32, Kind::Edge)
@@ -112,7 +114,7 @@ fn case(
     let side = bent_side(i.side, word, k);
     let mask = bent_mask(i.mask, k);
     let y = bent_pieces(i.x, word, k, a, r, v);
-    let told = calls::step(calls::RIGHT, word, side, mask, ds, a, r, c, vc, v);
+    let told = calls::step(RIGHT, word, side, mask, ds, a, r, c, vc, v);
     let h1 = mix(run.h, told.answer as u64);
     let h2 = mix(h1, told.accesses);
     let h = pieces::mix_after(h2, k, ds, a, r, c, vc, v);

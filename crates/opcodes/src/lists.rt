@@ -2,16 +2,17 @@
 ghost use Prim.Native.Nat.{_≤_, _<_};
 use crate::calls;
 use crate::calls::Told;
-use crate::chance::Drawn;
-use crate::chance::Inputs;
-use crate::chance::Run;
-use crate::chance::draw;
-use crate::chance::mix;
-use crate::chance::seed;
 use crate::fields;
-use crate::pieces;
-use crate::pieces::Kind;
-use crate::print;
+use draws::chance::Drawn;
+use draws::chance::Inputs;
+use draws::chance::Run;
+use draws::chance::draw;
+use draws::chance::mix;
+use draws::chance::seed;
+use draws::lengths::RIGHT;
+use draws::pieces;
+use draws::pieces::Kind;
+use draws::print;
 
 // An opcode by the family g. The second number counts as drawn only where the family takes two.
 fn draw_family(x: u64) -> Drawn {
@@ -131,11 +132,7 @@ fn spare(j: u32) -> usize
 }
 
 fn wrong(j: u32) -> u32 {
-    if j % 16 == 7 {
-        j / 16 % 12
-    } else {
-        calls::RIGHT
-    }
+    if j % 16 == 7 { j / 16 % 12 } else { RIGHT }
 }
 
 // A line for this list, or for the digest after each 128.

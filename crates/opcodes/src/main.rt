@@ -3,11 +3,9 @@ mod answers;
 mod asked;
 mod calls;
 mod cases;
-mod chance;
 mod fields;
 mod lists;
-mod pieces;
-mod print;
+mod near;
 
 use asked::Asked;
 use asked::asked_for;

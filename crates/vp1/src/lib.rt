@@ -1,4 +1,4 @@
-// The machine for C: an answer as document 01's number, the counts through pointers. include/vp1.h declares the two functions.
+// The machine for C: an answer as document 01's number, the counts through pointers. include/vp1.h declares the functions.
 ghost use mathlib.Core.Path.{_≡_};
 ghost use Rattle.model.specs.State.{pieces};
 ghost use Rattle.model.specs.Step.{outcome, refusal, stepOf};
@@ -7,6 +7,8 @@ ghost use Rattle.machine.specs.Answers.{numberOf, accessesOf, endNumber};
 use machine::End;
 use machine::Stepped;
 use words::Refusal;
+
+pub mod pairs; // pairs.rt: which places a triple touches, and whether two may be swapped
 
 fn refusal_number(k: Refusal) -> u32
     ensures { λ n. ⌜ n ≡ refusal k ⌝ }

@@ -1,0 +1,25 @@
+-- `pairs::blocks::block` is safe and ends.
+use Prim.Native.Nat.{_-_}
+use borrow.Author.Needs.{needs}
+use Rattle.pairs.proofs.blocks.block.Statement.{statement}
+use Rattle.pairs.proofs.blocks.block.Tie as tie
+
+abbrev Inv-loop : tie.InvT-loop
+Inv-loop _ _ _ _ _ _ _ _ _ _ _ _ _ _ _ _ _ _ _ _ _ _ = Unit {0}
+
+abbrev μ-loop : tie.MeasureT-loop
+μ-loop _ _ _ _ _ _ _ _ _ _ _ _ _ _ _ _ _ _ _ _ _ k = 8192 - k
+
+pub block-spec : {M : Type 1} → statement M
+block-spec = tie.close (tie.spec Inv-loop μ-loop
+    (λ c κs. search needs)
+    (λ c. search needs)
+    (λ c κs. search needs)
+    (λ c κs. search needs)
+    (λ c. search needs)
+    (λ c. search needs)
+    (λ c. search needs)
+    (λ c. search needs)
+    (λ c κs. search needs)
+    (λ c. search needs)
+    (λ c. search needs))

@@ -1,0 +1,22 @@
+-- `pairs::orders::same_bytes` is safe and ends.
+use Prim.Native.Nat.{_-_}
+use borrow.Author.Needs.{needs}
+use Rattle.pairs.proofs.orders.same_bytes.Statement.{statement}
+use Rattle.pairs.proofs.orders.same_bytes.Tie as tie
+
+abbrev Inv-loop : tie.InvT-loop
+Inv-loop _ _ _ _ _ = Unit {0}
+
+abbrev μ-loop : tie.MeasureT-loop
+μ-loop _ _ n _ i = n - i
+
+pub same-bytes-spec : {M : Type 1} → statement M
+same-bytes-spec = tie.close (tie.spec Inv-loop μ-loop
+    (λ c. search needs)
+    (λ c. search needs)
+    (λ c. search needs)
+    (λ c. search needs)
+    (λ c. search needs)
+    (λ c. search needs)
+    (λ c. search needs)
+    (λ c. search needs))

@@ -1,0 +1,84 @@
+-- `swap::places` meets its contract: each return knows what was tested before it.
+use mathlib.Core.Path.{_≡_, sym, _∙_}
+use mathlib.Core.Bool.{true}
+use borrow.Author.Needs.{needs}
+use borrow.Author.Tests.{not-true, not-false}
+use Rattle.model.specs.State.{State, state, sizedOf}
+use Rattle.model.proofs.Refused.{sized-if}
+use Rattle.swap.proofs.Calls.{named, small, ordered, unfit-pieces, unfit-buffer, refused, listing}
+use Rattle.swap.proofs.places.Statement.{statement}
+use Rattle.swap.proofs.places.Tie as tie
+
+abbrev from : tie.Start → State
+from s = state (s .args .ds .now) (s .args .a .now) (s .args .r .now) (s .args .c .now) (s .args .vc .now) (s .args .v .now)
+
+abbrev start : tie.After-sized → tie.Start
+start p = p .before .before .before .before .before .before .before .before
+
+returns : tie.Need-returns
+returns c =
+    let s = start (c .before) in
+    unfit-pieces (s .args .word) (s .args .side) (s .args .mask) (from s) (s .args .buffer .now)
+    (sym (c .before .sized .ensures) ∙ not-true _ (c .if1 .taken))
+
+well : (p : tie.Else1) → sizedOf (from (start (p .before))) ≡ true
+well p = sym (p .before .sized .ensures) ∙ not-false _ (p .if1 .left)
+
+returns-2 : tie.Need-returns-2
+returns-2 c =
+    let p = c .before in
+    let s = start (p .before) in
+    unfit-buffer (s .args .word) (s .args .side) (s .args .mask) (from s) (s .args .buffer .now) (well p) (c .if2 .taken)
+
+abbrev sized : tie.After-decode → tie.Else1
+sized p = p .before .before
+
+returns-3 : tie.Need-returns-3
+returns-3 c =
+    let p = c .before .before .before in
+    let s = start (sized p .before) in
+    refused (s .args .word) (s .args .side) (s .args .mask) (from s) (s .args .buffer .now) (well (sized p)) (p .before .if2 .left)
+    (p .decode .ensures) (c .before .enum-told .given .1) (c .not-listed .ensures)
+
+footprint-requires : tie.Need-footprint-requires
+footprint-requires c κs =
+    let p = c .before .before .before in
+    let s = start (sized p .before) in (
+      sized-if (from s) (well (sized p)) .a,
+      named (s .args .word) (s .args .side) (s .args .mask) (p .decode .result) _ (p .decode .ensures) (c .before .d .given .1),
+    )
+
+report-requires : tie.Need-report-requires
+report-requires c κs =
+    let d = c .before .before .before in
+    let p = d .before .before in
+    let s = from (start (sized p .before)) in
+    let i = d .d .given .0 .0 in
+    (p .before .if2 .left, small i s (c .before .footprint .ensures), ordered i s (c .before .footprint .ensures))
+
+returns-4 : tie.Need-returns-4
+returns-4 c =
+    let r = c .before .before in
+    let f = r .before .before in
+    let d = f .before .before in
+    let p = d .before .before in
+    let s = start (sized p .before) in
+    listing (s .args .word) (s .args .side) (s .args .mask) (from s) (s .args .buffer .now) (well (sized p)) (p .before .if2 .left)
+    (p .decode .ensures) (d .d .given .1) (f .footprint .ensures) (r .report .ensures)
+
+pub places-spec : {M : Type 1} → statement M
+places-spec =
+    tie.close
+    (tie.spec
+    (λ c κs. tt)
+    returns
+    returns-2
+    (λ c κs. tt)
+    (λ c. search needs)
+    (λ c. search needs)
+    (λ c κs. tt)
+    returns-3
+    footprint-requires
+    report-requires
+    (λ c. search needs)
+    returns-4)
