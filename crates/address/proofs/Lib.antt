@@ -1,2 +1,4 @@
 -- The tie between the formulas of specs/ and the model.
 pub mod Closed
+pub mod Increments
+pub mod Columns

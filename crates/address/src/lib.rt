@@ -1,23 +1,27 @@
-// The address unit's instructions, each on the lent pieces that it may read or change.
+// The address unit's instructions, each on the lent pieces that it may read or change. They take the word itself, so that only the fields
+// that an instruction uses are cut from it.
 ghost use mathlib.Core.Path.{_≡_};
+ghost use mathlib.Core.Bool.{true};
 ghost use mathlib.Core.List.{[]};
 ghost use Prim.Native.Nat.{_<_};
+ghost use lib.Dec.{ltb};
 ghost use lib.ListN.{length};
-ghost use Rattle.words.specs.Bounded.{BoundedI, BoundedA};
-ghost use Rattle.words.specs.declared.Address.the-variants.{Set, Add, Bitop, Aadd, Ld, St, Lda, Sta};
-ghost use Rattle.regs.specs.Regs.{endAt};
-ghost use Rattle.address.specs.Effect.{five, baseIn, plus, incOf, fetched, kept, intoR, intoV, outOf, addrAt, addressed, cellsIn};
+ghost use Rattle.banks.specs.Line.{addresses, places};
+ghost use Rattle.banks.specs.declared.Way.the-variants.{Horizontal, Vertical, Scalar};
+ghost use Rattle.store.specs.Store.{loaded, stored};
+ghost use Rattle.words.specs.Bounded.{BoundedI};
+ghost use Rattle.words.specs.Fields.{fieldsOf};
+ghost use Rattle.words.specs.Table.{setOf, addOf, aaddOf, bitopOf, ldOf, stOf};
+ghost use Rattle.words.specs.declared.Half.the-variants.{Low, High};
+ghost use Rattle.regs.specs.Regs.{endAt, vregOf, withVreg};
+ghost use Rattle.address.specs.Effect.{five, baseIn, plus, incOf, addrAt};
+ghost use Rattle.address.specs.Answered.{answered, answerOf, admits, incBy, ldaBy, staBy};
 use banks::Way;
 use regs::Base;
-use words::Access;
-use words::AccessAdd;
-use words::AddrSum;
-use words::Address;
-use words::BitSum;
+use words::Answer;
 use words::Half;
-use words::HalfSet;
 use words::Increment;
-use words::Sum;
+use words::Refusal;
 
 fn base_at(a: &[u32], n: usize) -> Base
     requires { ⌜ n < length (now a) ⌝ }
@@ -51,189 +55,338 @@ fn advance(n: usize, y: u16, cdst: usize, a: &mut [u32], c: &mut [u32])
     regs::set_end(c, cdst, x, b.limit);
 }
 
-// A load into register n of $v, or of $r.
-fn fetch(way: Way, n: usize, code: usize, x: usize, ds: &[u8], r: &mut [u32], v: &mut [u8])
-    requires { ⌜ (length (now ds) ≡ 8192) × (length (now r) ≡ 32) × (length (now v) ≡ 512) × (n < 32) × (code < 4) ⌝ }
-    ensures { λ _. ⌜ (now (r .exit) ≡ intoR way n (fetched way code x (now (ds .entry))) (now (r .entry)))
-        × (now (v .exit) ≡ intoV way n (fetched way code x (now (ds .entry))) (now (v .entry))) ⌝ }
+// Whether ldav., ldas, stav. or stas is not refused for its side index.
+fn admitted(op: u8, side: u32) -> bool
+    ensures { λ t. ⌜ t ≡ admits op side ⌝ }
 {
-    match way {
-        Way::Horizontal => {
-            regs::set_vreg(v, n, store::load_row(ds, code, x));
-        }
-        Way::Vertical => {
-            regs::set_vreg(v, n, store::load_column(ds, code, x));
-        }
-        Way::Scalar => {
-            r[n] = store::load_word(ds, code, x);
-        }
+    if op < 0xd0 { side < 32 } else { true }
+}
+
+fn increment_of(word: u32, side: u32) -> Increment
+    ensures { λ r. ⌜ r ≡ incBy (fieldsOf word) side ⌝ }
+{
+    if words::op_of(word) < 0xd0 {
+        Increment::Register(side as usize)
+    } else {
+        Increment::Immediate(words::imm_of(word))
     }
 }
 
-// A store from register n of $v, or of $r.
-fn keep(way: Way, n: usize, code: usize, x: usize, ds: &mut [u8], r: &[u32], v: &[u8])
-    requires { ⌜ (length (now ds) ≡ 8192) × (length (now r) ≡ 32) × (length (now v) ≡ 512) × (n < 32) × (code < 4) ⌝ }
-    ensures { λ _. ⌜ now (ds .exit) ≡ kept way code x (outOf way n (now (r .entry)) (now (v .entry))) (now (ds .entry)) ⌝ }
+// $a[n] moved on after the access of ldav., ldas, stav. or stas.
+fn move_on(n: usize, word: u32, side: u32, cdst: usize, a: &mut [u32], c: &mut [u32])
+    requires { ⌜ (length (now a) ≡ 32) × (length (now c) ≡ 4) × (n < 32) × (admits (fieldsOf word .op) side ≡ true) ⌝ }
+    ensures { λ _. ⌜ (now (a .exit) ≡ addrAt n (plus (baseIn (now (a .entry)) n .addr) (incOf (incBy (fieldsOf word) side) (now (a .entry)))) (now (a .entry)))
+        × (now (c .exit) ≡ endAt cdst (plus (baseIn (now (a .entry)) n .addr) (incOf (incBy (fieldsOf word) side) (now (a .entry)))) (baseIn (now (a .entry)) n .limit) (now (c .entry))) ⌝ }
 {
-    match way {
-        Way::Horizontal => {
-            store::store_row(ds, code, x, regs::vreg(v, n));
-        }
-        Way::Vertical => {
-            store::store_column(ds, code, x, regs::vreg(v, n));
-        }
-        Way::Scalar => {
-            store::store_word(ds, code, x, r[n]);
-        }
+    let inc = increment_of(word, side);
+    let y = increment(inc, a);
+    advance(n, y, cdst, a, c);
+}
+
+// The end flag of ld and st: their address is formed by OR, the flag by the sum.
+fn mark_end(b: Base, uimm: u16, cdst: usize, c: &mut [u32])
+    requires { ⌜ length (now c) ≡ 4 ⌝ }
+    ensures { λ _. ⌜ now (c .exit) ≡ endAt cdst (plus (b .addr) uimm) (b .limit) (now (c .entry)) ⌝ }
+{
+    let sum = std::num::wrapping_add_u16(b.addr, uimm);
+    regs::set_end(c, cdst, sum, b.limit);
+}
+
+// A column loaded into $v[n], or stored from it.
+fn column_in(n: usize, code: usize, x: usize, ds: &[u8], v: &mut [u8])
+    requires { ⌜ (length (now ds) ≡ 8192) × (length (now v) ≡ 512) × (n < 32) × (code < 4) ⌝ }
+    ensures { λ _. ⌜ now (v .exit) ≡ withVreg (now (v .entry)) n (loaded (now (ds .entry)) (places code (addresses Vertical code x))) ⌝ }
+{
+    let at = 16 * n;
+    store::load_column(ds, code, x, &mut v[at..at + 16]);
+}
+
+fn column_out(n: usize, code: usize, x: usize, ds: &mut [u8], v: &[u8])
+    requires { ⌜ (length (now ds) ≡ 8192) × (length (now v) ≡ 512) × (n < 32) × (code < 4) ⌝ }
+    ensures { λ _. ⌜ now (ds .exit) ≡ stored (now (ds .entry)) (places code (addresses Vertical code x)) (vregOf (now (v .entry)) n) ⌝ }
+{
+    let at = 16 * n;
+    store::store_column(ds, code, x, &v[at..at + 16]);
+}
+
+pub fn setlo(word: u32, a: &mut [u32]) -> Answer
+    requires { ⌜ (length (now a) ≡ 32) ⌝ }
+    ensures { λ x. ⌜ answered x (five [] (now (a .exit)) [] [] [])
+        ≡ answerOf true (setOf (fieldsOf word) Low) (five [] (now (a .entry)) [] [] []) ⌝ }
+{
+    let f = words::cut(word);
+    let n = f.dst;
+    a[n] = regs::with_half(Half::Low, f.half, a[n]);
+    Answer::Done(0)
+}
+
+pub fn sethi(word: u32, a: &mut [u32]) -> Answer
+    requires { ⌜ (length (now a) ≡ 32) ⌝ }
+    ensures { λ x. ⌜ answered x (five [] (now (a .exit)) [] [] [])
+        ≡ answerOf true (setOf (fieldsOf word) High) (five [] (now (a .entry)) [] [] []) ⌝ }
+{
+    let f = words::cut(word);
+    let n = f.dst;
+    a[n] = regs::with_half(Half::High, f.half, a[n]);
+    Answer::Done(0)
+}
+
+pub fn add(word: u32, side: u32, a: &mut [u32], c: &mut [u32]) -> Answer
+    requires { ⌜ (length (now a) ≡ 32) × (length (now c) ≡ 4) ⌝ }
+    ensures { λ x. ⌜ answered x (five [] (now (a .exit)) [] (now (c .exit)) [])
+        ≡ answerOf (ltb side 32) (addOf (fieldsOf word) side) (five [] (now (a .entry)) [] (now (c .entry)) []) ⌝ }
+{
+    if 31 < side {
+        return Answer::Refused(Refusal::SideIndex);
     }
-}
-
-fn exec_set(o: HalfSet, a: &mut [u32])
-    requires { ⌜ (length (now a) ≡ 32) × BoundedA (Set o) ⌝ }
-    ensures { λ _. ⌜ five [] (now (a .exit)) [] [] [] ≡ addressed (Set o) (five [] (now (a .entry)) [] [] []) ⌝ }
-{
-    let dst = o.dst;
-    let half = o.half;
-    a[dst] = regs::with_half(half, o.imm, a[dst]);
-}
-
-fn exec_add(o: Sum, a: &mut [u32], c: &mut [u32])
-    requires { ⌜ (length (now a) ≡ 32) × (length (now c) ≡ 4) × BoundedA (Add o) ⌝ }
-    ensures { λ _. ⌜ five [] (now (a .exit)) [] (now (c .exit)) [] ≡ addressed (Add o) (five [] (now (a .entry)) [] (now (c .entry)) []) ⌝ }
-{
-    let dst = o.dst;
-    let src1 = o.src1;
-    let src2 = o.src2;
-    let res = std::num::wrapping_add_u32(a[src1], a[src2]);
+    let f = words::cut(word);
+    let dst = f.dst;
+    let src1 = f.src1;
+    let res = std::num::wrapping_add_u32(a[src1], a[side as usize]);
     a[dst] = res;
-    regs::set_long(c, o.cdst, res);
+    regs::set_long(c, f.flags, res);
+    Answer::Done(0)
 }
 
-fn exec_bitop(o: BitSum, a: &mut [u32], c: &mut [u32])
-    requires { ⌜ (length (now a) ≡ 32) × (length (now c) ≡ 4) × BoundedA (Bitop o) ⌝ }
-    ensures { λ _. ⌜ five [] (now (a .exit)) [] (now (c .exit)) [] ≡ addressed (Bitop o) (five [] (now (a .entry)) [] (now (c .entry)) []) ⌝ }
+pub fn aadd(word: u32, side: u32, a: &mut [u32], c: &mut [u32]) -> Answer
+    requires { ⌜ (length (now a) ≡ 32) × (length (now c) ≡ 4) ⌝ }
+    ensures { λ x. ⌜ answered x (five [] (now (a .exit)) [] (now (c .exit)) [])
+        ≡ answerOf (ltb side 32) (aaddOf (fieldsOf word) side) (five [] (now (a .entry)) [] (now (c .entry)) []) ⌝ }
 {
-    let dst = o.dst;
-    let src1 = o.src1;
-    let src2 = o.src2;
-    let res = bits::bitop32(o.op, a[src1], a[src2]);
+    if 31 < side {
+        return Answer::Refused(Refusal::SideIndex);
+    }
+    let f = words::cut(word);
+    let y = base_at(a, side as usize);
+    advance(f.dst, y.addr, f.flags, a, c);
+    Answer::Done(0)
+}
+
+pub fn bitop(word: u32, a: &mut [u32], c: &mut [u32]) -> Answer
+    requires { ⌜ (length (now a) ≡ 32) × (length (now c) ≡ 4) ⌝ }
+    ensures { λ x. ⌜ answered x (five [] (now (a .exit)) [] (now (c .exit)) [])
+        ≡ answerOf true (bitopOf (fieldsOf word)) (five [] (now (a .entry)) [] (now (c .entry)) []) ⌝ }
+{
+    let f = words::cut(word);
+    let dst = f.dst;
+    let src1 = f.src1;
+    let src2 = f.src2;
+    let res = bits::bitop32(f.bitop, a[src1], a[src2]);
     a[dst] = res;
-    regs::set_long(c, o.flags, res);
+    regs::set_long(c, f.flags, res);
+    Answer::Done(0)
 }
 
-fn exec_aadd(o: AddrSum, a: &mut [u32], c: &mut [u32])
-    requires { ⌜ (length (now a) ≡ 32) × (length (now c) ≡ 4) × BoundedA (Aadd o) ⌝ }
-    ensures { λ _. ⌜ five [] (now (a .exit)) [] (now (c .exit)) [] ≡ addressed (Aadd o) (five [] (now (a .entry)) [] (now (c .entry)) []) ⌝ }
+pub fn ld_row(word: u32, ds: &[u8], a: &[u32], c: &mut [u32], v: &mut [u8]) -> Answer
+    requires { ⌜ (length (now ds) ≡ 8192) × (length (now a) ≡ 32) × (length (now c) ≡ 4) × (length (now v) ≡ 512) ⌝ }
+    ensures { λ x. ⌜ answered x (five (now (ds .entry)) (now (a .entry)) [] (now (c .exit)) (now (v .exit)))
+        ≡ answerOf true (ldOf (fieldsOf word) Horizontal) (five (now (ds .entry)) (now (a .entry)) [] (now (c .entry)) (now (v .entry))) ⌝ }
 {
-    let y = base_at(a, o.src2);
-    advance(o.dst, y.addr, o.cdst, a, c);
+    let f = words::cut(word);
+    let b = base_at(a, f.src1);
+    let x = banks::joined(b.addr, f.uimm);
+    regs::set_vreg(v, f.dst, store::load_row(ds, b.stride, x as usize));
+    mark_end(b, f.uimm, f.flags, c);
+    Answer::Done(banks::cells(Way::Horizontal, b.stride))
 }
 
-fn exec_ld(o: Access, ds: &[u8], a: &[u32], r: &mut [u32], c: &mut [u32], v: &mut [u8]) -> u64
-    requires { ⌜ (length (now ds) ≡ 8192) × (length (now a) ≡ 32) × (length (now r) ≡ 32) × (length (now c) ≡ 4) × (length (now v) ≡ 512) ⌝ }
-    requires { ⌜ BoundedA (Ld o) ⌝ }
-    ensures { λ k. ⌜ (k ≡ cellsIn (Ld o) (now (a .entry)))
-        × (five (now (ds .entry)) (now (a .entry)) (now (r .exit)) (now (c .exit)) (now (v .exit))
-        ≡ addressed (Ld o) (five (now (ds .entry)) (now (a .entry)) (now (r .entry)) (now (c .entry)) (now (v .entry)))) ⌝ }
+pub fn ld_column(word: u32, ds: &[u8], a: &[u32], c: &mut [u32], v: &mut [u8]) -> Answer
+    requires { ⌜ (length (now ds) ≡ 8192) × (length (now a) ≡ 32) × (length (now c) ≡ 4) × (length (now v) ≡ 512) ⌝ }
+    ensures { λ x. ⌜ answered x (five (now (ds .entry)) (now (a .entry)) [] (now (c .exit)) (now (v .exit)))
+        ≡ answerOf true (ldOf (fieldsOf word) Vertical) (five (now (ds .entry)) (now (a .entry)) [] (now (c .entry)) (now (v .entry))) ⌝ }
 {
-    let way = o.way;
-    let b = base_at(a, o.base);
-    let from = banks::joined(b.addr, o.uimm);
-    fetch(way, o.reg, b.stride, from as usize, ds, r, v);
-    let sum = std::num::wrapping_add_u16(b.addr, o.uimm);
-    regs::set_end(c, o.cdst, sum, b.limit);
-    banks::cells(way, b.stride)
+    let f = words::cut(word);
+    let b = base_at(a, f.src1);
+    let x = banks::joined(b.addr, f.uimm);
+    column_in(f.dst, b.stride, x as usize, ds, v);
+    mark_end(b, f.uimm, f.flags, c);
+    Answer::Done(banks::cells(Way::Vertical, b.stride))
 }
 
-fn exec_st(o: Access, ds: &mut [u8], a: &[u32], r: &[u32], c: &mut [u32], v: &[u8]) -> u64
-    requires { ⌜ (length (now ds) ≡ 8192) × (length (now a) ≡ 32) × (length (now r) ≡ 32) × (length (now c) ≡ 4) × (length (now v) ≡ 512) ⌝ }
-    requires { ⌜ BoundedA (St o) ⌝ }
-    ensures { λ k. ⌜ (k ≡ cellsIn (St o) (now (a .entry)))
-        × (five (now (ds .exit)) (now (a .entry)) (now (r .entry)) (now (c .exit)) (now (v .entry))
-        ≡ addressed (St o) (five (now (ds .entry)) (now (a .entry)) (now (r .entry)) (now (c .entry)) (now (v .entry)))) ⌝ }
+pub fn ld_word(word: u32, ds: &[u8], a: &[u32], c: &mut [u32], r: &mut [u32]) -> Answer
+    requires { ⌜ (length (now ds) ≡ 8192) × (length (now a) ≡ 32) × (length (now c) ≡ 4) × (length (now r) ≡ 32) ⌝ }
+    ensures { λ x. ⌜ answered x (five (now (ds .entry)) (now (a .entry)) (now (r .exit)) (now (c .exit)) [])
+        ≡ answerOf true (ldOf (fieldsOf word) Scalar) (five (now (ds .entry)) (now (a .entry)) (now (r .entry)) (now (c .entry)) []) ⌝ }
 {
-    let way = o.way;
-    let b = base_at(a, o.base);
-    let to = banks::joined(b.addr, o.uimm);
-    keep(way, o.reg, b.stride, to as usize, ds, r, v);
-    let sum = std::num::wrapping_add_u16(b.addr, o.uimm);
-    regs::set_end(c, o.cdst, sum, b.limit);
-    banks::cells(way, b.stride)
+    let f = words::cut(word);
+    let b = base_at(a, f.src1);
+    let x = banks::joined(b.addr, f.uimm);
+    let n = f.dst;
+    r[n] = store::load_word(ds, b.stride, x as usize);
+    mark_end(b, f.uimm, f.flags, c);
+    Answer::Done(banks::cells(Way::Scalar, b.stride))
 }
 
-fn exec_lda(
-    o: AccessAdd,
+pub fn st_row(word: u32, ds: &mut [u8], a: &[u32], c: &mut [u32], v: &[u8]) -> Answer
+    requires { ⌜ (length (now ds) ≡ 8192) × (length (now a) ≡ 32) × (length (now c) ≡ 4) × (length (now v) ≡ 512) ⌝ }
+    ensures { λ x. ⌜ answered x (five (now (ds .exit)) (now (a .entry)) [] (now (c .exit)) (now (v .entry)))
+        ≡ answerOf true (stOf (fieldsOf word) Horizontal) (five (now (ds .entry)) (now (a .entry)) [] (now (c .entry)) (now (v .entry))) ⌝ }
+{
+    let f = words::cut(word);
+    let b = base_at(a, f.dst);
+    let x = banks::joined(b.addr, f.uimm);
+    store::store_row(ds, b.stride, x as usize, regs::vreg(v, f.src1));
+    mark_end(b, f.uimm, f.flags, c);
+    Answer::Done(banks::cells(Way::Horizontal, b.stride))
+}
+
+pub fn st_column(word: u32, ds: &mut [u8], a: &[u32], c: &mut [u32], v: &[u8]) -> Answer
+    requires { ⌜ (length (now ds) ≡ 8192) × (length (now a) ≡ 32) × (length (now c) ≡ 4) × (length (now v) ≡ 512) ⌝ }
+    ensures { λ x. ⌜ answered x (five (now (ds .exit)) (now (a .entry)) [] (now (c .exit)) (now (v .entry)))
+        ≡ answerOf true (stOf (fieldsOf word) Vertical) (five (now (ds .entry)) (now (a .entry)) [] (now (c .entry)) (now (v .entry))) ⌝ }
+{
+    let f = words::cut(word);
+    let b = base_at(a, f.dst);
+    let x = banks::joined(b.addr, f.uimm);
+    column_out(f.src1, b.stride, x as usize, ds, v);
+    mark_end(b, f.uimm, f.flags, c);
+    Answer::Done(banks::cells(Way::Vertical, b.stride))
+}
+
+pub fn st_word(word: u32, ds: &mut [u8], a: &[u32], c: &mut [u32], r: &[u32]) -> Answer
+    requires { ⌜ (length (now ds) ≡ 8192) × (length (now a) ≡ 32) × (length (now c) ≡ 4) × (length (now r) ≡ 32) ⌝ }
+    ensures { λ x. ⌜ answered x (five (now (ds .exit)) (now (a .entry)) (now (r .entry)) (now (c .exit)) [])
+        ≡ answerOf true (stOf (fieldsOf word) Scalar) (five (now (ds .entry)) (now (a .entry)) (now (r .entry)) (now (c .entry)) []) ⌝ }
+{
+    let f = words::cut(word);
+    let b = base_at(a, f.dst);
+    let x = banks::joined(b.addr, f.uimm);
+    let n = f.src1;
+    store::store_word(ds, b.stride, x as usize, r[n]);
+    mark_end(b, f.uimm, f.flags, c);
+    Answer::Done(banks::cells(Way::Scalar, b.stride))
+}
+
+pub fn lda_row(
+    word: u32,
+    side: u32,
     ds: &[u8],
     a: &mut [u32],
-    r: &mut [u32],
     c: &mut [u32],
     v: &mut [u8],
-) -> u64
-    requires { ⌜ (length (now ds) ≡ 8192) × (length (now a) ≡ 32) × (length (now r) ≡ 32) × (length (now c) ≡ 4) × (length (now v) ≡ 512) ⌝ }
-    requires { ⌜ BoundedA (Lda o) ⌝ }
-    ensures { λ k. ⌜ (k ≡ cellsIn (Lda o) (now (a .entry)))
-        × (five (now (ds .entry)) (now (a .exit)) (now (r .exit)) (now (c .exit)) (now (v .exit))
-        ≡ addressed (Lda o) (five (now (ds .entry)) (now (a .entry)) (now (r .entry)) (now (c .entry)) (now (v .entry)))) ⌝ }
+) -> Answer
+    requires { ⌜ (length (now ds) ≡ 8192) × (length (now a) ≡ 32) × (length (now c) ≡ 4) × (length (now v) ≡ 512) ⌝ }
+    ensures { λ x. ⌜ answered x (five (now (ds .entry)) (now (a .exit)) [] (now (c .exit)) (now (v .exit)))
+        ≡ answerOf (admits (fieldsOf word .op) side) (ldaBy (fieldsOf word) Horizontal side) (five (now (ds .entry)) (now (a .entry)) [] (now (c .entry)) (now (v .entry))) ⌝ }
 {
-    let way = o.way;
-    let inc = o.inc;
-    let b = base_at(a, o.base);
-    fetch(way, o.reg, b.stride, b.addr as usize, ds, r, v);
-    let y = increment(inc, a);
-    advance(o.base, y, o.cdst, a, c);
-    banks::cells(way, b.stride)
+    let f = words::cut(word);
+    if !admitted(f.op, side) {
+        return Answer::Refused(Refusal::SideIndex);
+    }
+    let b = base_at(a, f.src1);
+    regs::set_vreg(v, f.dst, store::load_row(ds, b.stride, b.addr as usize));
+    move_on(f.src1, word, side, f.flags, a, c);
+    Answer::Done(banks::cells(Way::Horizontal, b.stride))
 }
 
-fn exec_sta(o: AccessAdd, ds: &mut [u8], a: &mut [u32], r: &[u32], c: &mut [u32], v: &[u8]) -> u64
-    requires { ⌜ (length (now ds) ≡ 8192) × (length (now a) ≡ 32) × (length (now r) ≡ 32) × (length (now c) ≡ 4) × (length (now v) ≡ 512) ⌝ }
-    requires { ⌜ BoundedA (Sta o) ⌝ }
-    ensures { λ k. ⌜ (k ≡ cellsIn (Sta o) (now (a .entry)))
-        × (five (now (ds .exit)) (now (a .exit)) (now (r .entry)) (now (c .exit)) (now (v .entry))
-        ≡ addressed (Sta o) (five (now (ds .entry)) (now (a .entry)) (now (r .entry)) (now (c .entry)) (now (v .entry)))) ⌝ }
+pub fn lda_column(
+    word: u32,
+    side: u32,
+    ds: &[u8],
+    a: &mut [u32],
+    c: &mut [u32],
+    v: &mut [u8],
+) -> Answer
+    requires { ⌜ (length (now ds) ≡ 8192) × (length (now a) ≡ 32) × (length (now c) ≡ 4) × (length (now v) ≡ 512) ⌝ }
+    ensures { λ x. ⌜ answered x (five (now (ds .entry)) (now (a .exit)) [] (now (c .exit)) (now (v .exit)))
+        ≡ answerOf (admits (fieldsOf word .op) side) (ldaBy (fieldsOf word) Vertical side) (five (now (ds .entry)) (now (a .entry)) [] (now (c .entry)) (now (v .entry))) ⌝ }
 {
-    let way = o.way;
-    let inc = o.inc;
-    let b = base_at(a, o.base);
-    keep(way, o.reg, b.stride, b.addr as usize, ds, r, v);
-    let y = increment(inc, a);
-    advance(o.base, y, o.cdst, a, c);
-    banks::cells(way, b.stride)
+    let f = words::cut(word);
+    if !admitted(f.op, side) {
+        return Answer::Refused(Refusal::SideIndex);
+    }
+    let b = base_at(a, f.src1);
+    column_in(f.dst, b.stride, b.addr as usize, ds, v);
+    move_on(f.src1, word, side, f.flags, a, c);
+    Answer::Done(banks::cells(Way::Vertical, b.stride))
 }
 
-pub fn exec(
-    i: Address,
+pub fn lda_word(
+    word: u32,
+    side: u32,
+    ds: &[u8],
+    a: &mut [u32],
+    c: &mut [u32],
+    r: &mut [u32],
+) -> Answer
+    requires { ⌜ (length (now ds) ≡ 8192) × (length (now a) ≡ 32) × (length (now c) ≡ 4) × (length (now r) ≡ 32) ⌝ }
+    ensures { λ x. ⌜ answered x (five (now (ds .entry)) (now (a .exit)) (now (r .exit)) (now (c .exit)) [])
+        ≡ answerOf (admits (fieldsOf word .op) side) (ldaBy (fieldsOf word) Scalar side) (five (now (ds .entry)) (now (a .entry)) (now (r .entry)) (now (c .entry)) []) ⌝ }
+{
+    let f = words::cut(word);
+    if !admitted(f.op, side) {
+        return Answer::Refused(Refusal::SideIndex);
+    }
+    let b = base_at(a, f.src1);
+    let n = f.dst;
+    r[n] = store::load_word(ds, b.stride, b.addr as usize);
+    move_on(f.src1, word, side, f.flags, a, c);
+    Answer::Done(banks::cells(Way::Scalar, b.stride))
+}
+
+pub fn sta_row(
+    word: u32,
+    side: u32,
     ds: &mut [u8],
     a: &mut [u32],
-    r: &mut [u32],
     c: &mut [u32],
-    v: &mut [u8],
-) -> u64
-    requires { ⌜ (length (now ds) ≡ 8192) × (length (now a) ≡ 32) × (length (now r) ≡ 32) × (length (now c) ≡ 4) × (length (now v) ≡ 512) ⌝ }
-    requires { ⌜ BoundedA i ⌝ }
-    ensures { λ k. ⌜ (k ≡ cellsIn i (now (a .entry)))
-        × (five (now (ds .exit)) (now (a .exit)) (now (r .exit)) (now (c .exit)) (now (v .exit))
-        ≡ addressed i (five (now (ds .entry)) (now (a .entry)) (now (r .entry)) (now (c .entry)) (now (v .entry)))) ⌝ }
+    v: &[u8],
+) -> Answer
+    requires { ⌜ (length (now ds) ≡ 8192) × (length (now a) ≡ 32) × (length (now c) ≡ 4) × (length (now v) ≡ 512) ⌝ }
+    ensures { λ x. ⌜ answered x (five (now (ds .exit)) (now (a .exit)) [] (now (c .exit)) (now (v .entry)))
+        ≡ answerOf (admits (fieldsOf word .op) side) (staBy (fieldsOf word) Horizontal side) (five (now (ds .entry)) (now (a .entry)) [] (now (c .entry)) (now (v .entry))) ⌝ }
 {
-    match i {
-        Address::Set(o) => {
-            exec_set(o, a);
-            0
-        }
-        Address::Add(o) => {
-            exec_add(o, a, c);
-            0
-        }
-        Address::Bitop(o) => {
-            exec_bitop(o, a, c);
-            0
-        }
-        Address::Aadd(o) => {
-            exec_aadd(o, a, c);
-            0
-        }
-        Address::Ld(o) => exec_ld(o, ds, a, r, c, v),
-        Address::St(o) => exec_st(o, ds, a, r, c, v),
-        Address::Lda(o) => exec_lda(o, ds, a, r, c, v),
-        Address::Sta(o) => exec_sta(o, ds, a, r, c, v),
+    let f = words::cut(word);
+    if !admitted(f.op, side) {
+        return Answer::Refused(Refusal::SideIndex);
     }
+    let b = base_at(a, f.dst);
+    store::store_row(ds, b.stride, b.addr as usize, regs::vreg(v, f.src1));
+    move_on(f.dst, word, side, f.flags, a, c);
+    Answer::Done(banks::cells(Way::Horizontal, b.stride))
+}
+
+pub fn sta_column(
+    word: u32,
+    side: u32,
+    ds: &mut [u8],
+    a: &mut [u32],
+    c: &mut [u32],
+    v: &[u8],
+) -> Answer
+    requires { ⌜ (length (now ds) ≡ 8192) × (length (now a) ≡ 32) × (length (now c) ≡ 4) × (length (now v) ≡ 512) ⌝ }
+    ensures { λ x. ⌜ answered x (five (now (ds .exit)) (now (a .exit)) [] (now (c .exit)) (now (v .entry)))
+        ≡ answerOf (admits (fieldsOf word .op) side) (staBy (fieldsOf word) Vertical side) (five (now (ds .entry)) (now (a .entry)) [] (now (c .entry)) (now (v .entry))) ⌝ }
+{
+    let f = words::cut(word);
+    if !admitted(f.op, side) {
+        return Answer::Refused(Refusal::SideIndex);
+    }
+    let b = base_at(a, f.dst);
+    column_out(f.src1, b.stride, b.addr as usize, ds, v);
+    move_on(f.dst, word, side, f.flags, a, c);
+    Answer::Done(banks::cells(Way::Vertical, b.stride))
+}
+
+pub fn sta_word(
+    word: u32,
+    side: u32,
+    ds: &mut [u8],
+    a: &mut [u32],
+    c: &mut [u32],
+    r: &[u32],
+) -> Answer
+    requires { ⌜ (length (now ds) ≡ 8192) × (length (now a) ≡ 32) × (length (now c) ≡ 4) × (length (now r) ≡ 32) ⌝ }
+    ensures { λ x. ⌜ answered x (five (now (ds .exit)) (now (a .exit)) (now (r .entry)) (now (c .exit)) [])
+        ≡ answerOf (admits (fieldsOf word .op) side) (staBy (fieldsOf word) Scalar side) (five (now (ds .entry)) (now (a .entry)) (now (r .entry)) (now (c .entry)) []) ⌝ }
+{
+    let f = words::cut(word);
+    if !admitted(f.op, side) {
+        return Answer::Refused(Refusal::SideIndex);
+    }
+    let b = base_at(a, f.dst);
+    let n = f.src1;
+    store::store_word(ds, b.stride, b.addr as usize, r[n]);
+    move_on(f.dst, word, side, f.flags, a, c);
+    Answer::Done(banks::cells(Way::Scalar, b.stride))
 }

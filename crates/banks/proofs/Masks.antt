@@ -61,13 +61,13 @@ pub at-line : (c a : ℕ) → a < 8192 → at c a ≡ bankOf c a * 512 + a / 16
 unfolding at placeOf
 at-line c a h = omega (arith, above a h)
 
--- the last arm of the decision by code
-pub turn-rest : (c a : ℕ) → (c ≡ 0 → ⊥) → (c ≡ 1 → ⊥) → (c ≡ 2 → ⊥) → a / 128 ≡ turnOf c a
+pub turn-shift : (c a : ℕ) → c < 4 → (c ≡ 0 → ⊥) → a / 2 ^ (4 + c) ≡ turnOf c a
 unfolding turnOf
-turn-rest zero a p q r = absurd (p refl)
-turn-rest (suc zero) a p q r = absurd (q refl)
-turn-rest (suc (suc zero)) a p q r = absurd (r refl)
-turn-rest (suc (suc (suc c))) a p q r = refl
+turn-shift zero a h p = absurd (p refl)
+turn-shift (suc zero) a h p = refl
+turn-shift (suc (suc zero)) a h p = refl
+turn-shift (suc (suc (suc zero))) a h p = refl
+turn-shift (suc (suc (suc (suc c)))) a h p = absurd (omega arith)
 
 pub column-cells : (c : ℕ) → (c ≡ 0 → ⊥) → 16 ≡ cellsOf Vertical c
 unfolding cellsOf

@@ -17,11 +17,10 @@ pub fn turn(code: usize, addr: usize) -> usize
     requires { ⌜ (code < 4) × (addr < 8192) ⌝ }
     ensures { λ r. ⌜ r ≡ turnOf code addr ⌝ }
 {
-    match code {
-        0 => addr / 32 % 8,
-        1 => addr / 32,
-        2 => addr / 64,
-        _ => addr / 128,
+    if code == 0 {
+        addr / 32 % 8
+    } else {
+        addr >> (4 + code)
     }
 }
 

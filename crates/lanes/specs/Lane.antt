@@ -1,17 +1,21 @@
 -- What an operation makes of one component: the byte, the sign flag, the zero flag.
 use mathlib.Core.Bool.{Bool, true, false, cond, _||_}
-use Prim.Native.Nat.{ℕ, _+_, _*_, _-_, _/_, _%_, _^_, min}
+use Prim.Native.Nat.{ℕ, _+_, _*_, _-_, min}
 use lib.Bits.{bitAnd, bitOr, bitXor}
 use lib.Dec.{eqb, ltb, leb}
 use lib.IntN.{ℤ, pos, negsuc, _+ℤ_, _-ℤ_, negℤ, natAbs}
 use lib.Signed.{ltZ}
 use Rattle.bits.specs.Bitop.{bit, bitop}
 use Rattle.signed.specs.Signed.{widen, sext, low, clip, isZero, shifted}
-use Rattle.lanes.specs.declared.Lane.{Lane}
 use Rattle.lanes.specs.declared.Calc.{Calc}
 use Rattle.lanes.specs.declared.Calc.the-variants.{Min, Max, Abs, Neg, Add, Sub}
 use Rattle.lanes.specs.declared.Logic.{Logic}
 use Rattle.lanes.specs.declared.Logic.the-variants.{And, Xor, Or}
+
+pub record Lane : Type 0 where
+  pub byte : ℕ
+  pub sign : Bool
+  pub zero : Bool
 
 -- signed results clip to -128..127, and the sign flag is the true result's sign; unsigned clip to 0..255, and the sign flag means
 -- that it clipped; the zero flag is from the clipped result

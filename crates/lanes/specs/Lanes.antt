@@ -1,15 +1,13 @@
 -- A vector operation from its components.
-use mathlib.Core.Bool.{Bool, true, false, cond}
+use mathlib.Core.Bool.{Bool, cond}
 use mathlib.Core.List.{List, [], _∷_, _++_}
 use Prim.Native.Nat.{ℕ, zero, suc, _+_, _*_, _-_, _/_, _%_, _^_}
 use lib.Dec.{eqb, ltb}
-use lib.ListN.{getD, replicate}
-use Rattle.lanes.specs.declared.Lane.{Lane}
-use Rattle.lanes.specs.declared.Lanes.{Lanes}
+use lib.ListN.{getD}
 use Rattle.lanes.specs.declared.Flags.{Flags}
 use Rattle.lanes.specs.declared.Calc.{Calc}
 use Rattle.lanes.specs.declared.Logic.{Logic}
-use Rattle.lanes.specs.Lane.{arithLane, shiftLane, clipLane, minAbsLane, add9Lane, bitopLane, logicLane, movLane, movImmLane, cmpadLane}
+use Rattle.lanes.specs.Lane.{Lane, arithLane, shiftLane, clipLane, minAbsLane, add9Lane, bitopLane, logicLane, movLane, movImmLane, cmpadLane}
 
 -- f 0, f 1, .. , f (n - 1)
 unfoldable pub listed : ℕ → (ℕ → ℕ) → List ℕ
@@ -21,7 +19,12 @@ unfoldable pub flags : ℕ → (ℕ → Bool) → ℕ
 flags zero f = 0
 flags (suc n) f = cond (f n) (2 ^ n) 0 + flags n f
 
--- all sixteen components
+-- what an operation makes of all sixteen components: bit i of signs and of zeros is component i's flag
+pub record Lanes : Type 0 where
+  pub bytes : List ℕ
+  pub signs : ℕ
+  pub zeros : ℕ
+
 unfoldable pub lanesOf : (ℕ → Lane) → Lanes
 lanesOf f = record { bytes = listed 16 (λ i. f i .byte); signs = flags 16 (λ i. f i .sign); zeros = flags 16 (λ i. f i .zero) }
 

@@ -1,23 +1,9 @@
-// Which bytes and bits a component takes from the sources.
+// Which of two bytes a component takes, and the words that two sources make.
 ghost use mathlib.Core.Path.{_≡_};
 ghost use mathlib.Core.Bool.{cond};
-ghost use Prim.Native.Nat.{_<_, _+_, _-_, _*_, _/_, _%_, _^_};
-ghost use lib.Dec.{eqb, ltb};
-ghost use Rattle.lanes.specs.Lanes.{listed, pairAt, component, source};
-
-// The same flag for all sixteen.
-pub fn all(t: bool) -> u16
-    ensures { λ r. ⌜ r ≡ cond t 0xffff 0 ⌝ }
-{
-    if t { 0xffff } else { 0 }
-}
-
-pub fn bit_at(input: u16, i: usize) -> u8
-    requires { ⌜ i < 16 ⌝ }
-    ensures { λ r. ⌜ (r ≡ input / 2 ^ i % 2) × (r < 2) ⌝ }
-{
-    ((input >> i) % 2) as u8
-}
+ghost use Prim.Native.Nat.{_+_, _-_, _*_};
+ghost use lib.Dec.{ltb};
+ghost use Rattle.lanes.specs.Lanes.{listed, pairAt};
 
 fn word(lo: u8, hi: u8) -> u16
     ensures { λ r. ⌜ r ≡ lo + hi * 256 ⌝ }
@@ -47,22 +33,6 @@ pub fn words(b: [u8; 16], c: [u8; 16]) -> [u16; 16]
         word(c[12], c[13]),
         word(c[14], c[15]),
     ]
-}
-
-pub fn component(hi: bool, s: u8) -> usize
-    ensures { λ r. ⌜ (r ≡ component hi s) × (r < 16) ⌝ }
-{
-    if hi {
-        (s / 16) as usize
-    } else {
-        (s % 16) as usize
-    }
-}
-
-pub fn from_first(hi: bool, s: u8) -> bool
-    ensures { λ r. ⌜ r ≡ eqb (source hi s) 0 ⌝ }
-{
-    if hi { s % 2 == 0 } else { s / 16 % 2 == 0 }
 }
 
 pub fn either(t: bool, a: u8, b: u8) -> u8

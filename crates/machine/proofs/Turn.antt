@@ -15,8 +15,8 @@ use Rattle.model.specs.Step.{refusal, tripleOf}
 use Rattle.model.specs.Run.{RunOutcome, ended, runFrom, runOf}
 use Rattle.model.proofs.Cells.{triple-le}
 use Rattle.machine.specs.Answers.{answerOutcome, endNumber, toEnd}
-use Rattle.machine.specs.declared.Answer.{Answer}
-use Rattle.machine.specs.declared.Answer.the-variants as A
+use Rattle.words.specs.declared.Answer.{Answer}
+use Rattle.words.specs.declared.Answer.the-variants as A
 
 module _ (b : ℕ) (ws : List ℕ) (s : State) where
   pub short : sizedOf s ≡ false → ended 5 0 0 s ≡ runOf b ws s

@@ -9,8 +9,8 @@ use Rattle.model.specs.State.{State}
 use Rattle.model.specs.Step.{Outcome, refusal, tripleOf, stepOf}
 use Rattle.model.specs.Run.{RunOutcome, runOf}
 use Rattle.machine.specs.Answers.{answerOutcome, stepOutcome, endNumber, runOutcome}
-use Rattle.machine.specs.declared.Answer.{Answer}
-use Rattle.machine.specs.declared.Answer.the-variants as A
+use Rattle.words.specs.declared.Answer.{Answer}
+use Rattle.words.specs.declared.Answer.the-variants as A
 use Rattle.machine.specs.declared.Stepped.{Stepped}
 use Rattle.machine.specs.declared.Stepped.the-variants as S
 use Rattle.machine.specs.declared.End.{End}

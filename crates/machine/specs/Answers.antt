@@ -1,22 +1,15 @@
 -- What each answer stands for: document 01's number, the cell accesses, and with the six pieces the outcome of the call.
 use Prim.Native.Nat.{ℕ}
-use Rattle.words.specs.declared.Insn.{Insn}
-use Rattle.words.specs.declared.Decoded.{Decoded}
-use Rattle.words.specs.declared.Decoded.the-variants as D
 use Rattle.model.specs.State.{State}
-use Rattle.model.specs.Step.{Outcome, outcome, refusal, stepped, entered}
+use Rattle.model.specs.Step.{Outcome, outcome, refusal}
 use Rattle.model.specs.Run.{RunOutcome, ended}
-use Rattle.machine.specs.declared.Answer.{Answer}
-use Rattle.machine.specs.declared.Answer.the-variants as A
+use Rattle.words.specs.declared.Answer.{Answer}
+use Rattle.words.specs.declared.Answer.the-variants as A
 use Rattle.machine.specs.declared.Stepped.{Stepped}
 use Rattle.machine.specs.declared.Stepped.the-variants as S
 use Rattle.machine.specs.declared.End.{End}
 use Rattle.machine.specs.declared.End.the-variants as E
 use Rattle.machine.specs.declared.Ran.{Ran}
-
--- an accepted instruction, done
-abbrev pub execOf : Insn → State → Outcome
-execOf i s = outcome 0 (entered i s) (stepped i s)
 
 -- one triple
 abbrev pub answerOutcome : Answer → State → Outcome
@@ -49,13 +42,15 @@ abbrev pub runOutcome : Ran → State → RunOutcome
 runOutcome x s = ended (endNumber (x .end)) (x .steps) (x .accesses) s
 
 -- from one answer to the next
-abbrev pub refusedOf : Decoded → Answer
-refusedOf (D.Refused k) = A.Refused k
-refusedOf (D.Insn i) = A.Done 0
+abbrev pub stepAt : End → ℕ → Stepped
+stepAt E.All n = S.Done n
+stepAt (E.Refused k) n = S.Refused k
+stepAt E.Lengths n = S.Lengths
+stepAt E.Ragged n = S.Lengths
+stepAt E.Spent n = S.Lengths
 
-abbrev pub toStep : Answer → Stepped
-toStep (A.Done n) = S.Done n
-toStep (A.Refused k) = S.Refused k
+abbrev pub toStep : Ran → Stepped
+toStep x = stepAt (x .end) (x .accesses)
 
 abbrev pub toEnd : Answer → End
 toEnd (A.Done n) = E.All

@@ -1,19 +1,11 @@
-// The two units as one machine on the six lent pieces: one instruction, one triple, the single call and the list call.
+// The two units as one machine on the six lent pieces: one triple, the list call, the single call.
 ghost use mathlib.Core.Path.{_≡_};
-ghost use Rattle.words.specs.Bounded.{Bounded};
 ghost use Rattle.model.specs.State.{pieces, lengths, Sized};
-ghost use Rattle.model.specs.Step.{outcome, tripleOf, stepOf};
+ghost use Rattle.model.specs.Step.{tripleOf, stepOf};
 ghost use Rattle.model.specs.Run.{runOf};
-ghost use Rattle.machine.specs.Answers.{execOf, answerOutcome, stepOutcome, runOutcome, refusedOf, toStep, toEnd, ranOf};
-use words::Decoded;
-use words::Insn;
+ghost use Rattle.machine.specs.Answers.{answerOutcome, stepOutcome, runOutcome, toStep, toEnd, ranOf};
+use words::Answer;
 use words::Refusal;
-
-// One triple's answer, on pieces of right lengths: the cells entered, or why it was refused.
-pub enum Answer {
-    Done(u64),
-    Refused(Refusal),
-}
 
 // The single call's answer.
 pub enum Stepped {
@@ -62,25 +54,6 @@ pub fn sized(ds: usize, a: usize, r: usize, c: usize, vc: usize, v: usize) -> bo
     true
 }
 
-// The answer to a word that is no instruction: `let .. else` cannot bind the refusal.
-fn refused(d: Decoded) -> Answer
-    ensures { λ x. ⌜ x ≡ refusedOf d ⌝ }
-{
-    match d {
-        Decoded::Refused(k) => Answer::Refused(k),
-        Decoded::Insn(_) => Answer::Done(0),
-    }
-}
-
-fn to_step(x: Answer) -> Stepped
-    ensures { λ r. ⌜ r ≡ toStep x ⌝ }
-{
-    match x {
-        Answer::Done(n) => Stepped::Done(n),
-        Answer::Refused(k) => Stepped::Refused(k),
-    }
-}
-
 fn to_end(x: Answer) -> End
     ensures { λ r. ⌜ r ≡ toEnd x ⌝ }
 {
@@ -90,32 +63,8 @@ fn to_end(x: Answer) -> End
     }
 }
 
-// One instruction; the number of cells that it enters.
-fn exec(
-    i: Insn,
-    ds: &mut [u8],
-    a: &mut [u32],
-    r: &mut [u32],
-    c: &mut [u32],
-    vc: &mut [u32],
-    v: &mut [u8],
-) -> u64
-    requires { ⌜ Sized (pieces ds a r c vc v) ⌝ }
-    requires { ⌜ Bounded i ⌝ }
-    ensures { λ k. ⌜ outcome 0 k (pieces (ds .exit) (a .exit) (r .exit) (c .exit) (vc .exit) (v .exit))
-        ≡ execOf i (pieces (ds .entry) (a .entry) (r .entry) (c .entry) (vc .entry) (v .entry)) ⌝ }
-{
-    match i {
-        Insn::Address(x) => address::exec(x, ds, a, r, c, v),
-        Insn::Vector(x) => {
-            vector::exec(x, vc, v);
-            0
-        }
-        Insn::Nop => 0,
-    }
-}
-
-// One triple, where the lengths are known to be right.
+// One triple, where the lengths are known to be right. The opcode alone decides, once; there is no decoded word in between, which would have to
+// be put together and taken apart again at every step.
 pub fn triple(
     word: u32,
     side: u32,
@@ -131,32 +80,53 @@ pub fn triple(
     ensures { λ x. ⌜ answerOutcome x (pieces (ds .exit) (a .exit) (r .exit) (c .exit) (vc .exit) (v .exit))
         ≡ tripleOf word side mask (pieces (ds .entry) (a .entry) (r .entry) (c .entry) (vc .entry) (v .entry)) ⌝ }
 {
-    let d = words::decode(word, side, mask);
-    let Decoded::Insn(i) = d else {
-        return refused(d);
-    };
-    Answer::Done(exec(i, ds, a, r, c, vc, v))
-}
-
-// The single call.
-pub fn step(
-    word: u32,
-    side: u32,
-    mask: u32,
-    ds: &mut [u8],
-    a: &mut [u32],
-    r: &mut [u32],
-    c: &mut [u32],
-    vc: &mut [u32],
-    v: &mut [u8],
-) -> Stepped
-    ensures { λ x. ⌜ stepOutcome x (pieces (ds .exit) (a .exit) (r .exit) (c .exit) (vc .exit) (v .exit))
-        ≡ stepOf word side mask (pieces (ds .entry) (a .entry) (r .entry) (c .entry) (vc .entry) (v .entry)) ⌝ }
-{
-    if !sized(ds.len(), a.len(), r.len(), c.len(), vc.len(), v.len()) {
-        return Stepped::Lengths;
+    let op = words::op_of(word);
+    match op {
+        0x88 | 0xa8 => vector::min_signed(word, op == 0xa8, vc, v),
+        0x89 | 0xa9 => vector::max_signed(word, op == 0xa9, vc, v),
+        0x8a => vector::abs_signed(word, vc, v),
+        0x8b => vector::neg_signed(word, vc, v),
+        0x8c | 0xac => vector::add_signed(word, op == 0xac, vc, v),
+        0x8d => vector::sub_signed(word, false, vc, v),
+        0x8e | 0xae => vector::sar(word, op == 0xae, vc, v),
+        0x8f => vector::cmpad(word, mask, vc, v),
+        0x94 => vector::bitop(word, vc, v),
+        0x98 | 0xb8 => vector::min_unsigned(word, op == 0xb8, vc, v),
+        0x99 | 0xb9 => vector::max_unsigned(word, op == 0xb9, vc, v),
+        0x9a => vector::abs_unsigned(word, vc, v),
+        0x9b => vector::swz(word, v),
+        0x9c | 0xbc => vector::add_unsigned(word, op == 0xbc, vc, v),
+        0x9d | 0xbd => vector::sub_unsigned(word, op == 0xbd, vc, v),
+        0x9e | 0xbe => vector::shr(word, op == 0xbe, vc, v),
+        0x9f => vector::add9(word, vc, v),
+        0xa4 => vector::clip(word, vc, v),
+        0xa5 => vector::min_abs(word, vc, v),
+        0xaa => vector::ands(word, vc, v),
+        0xab => vector::xors(word, vc, v),
+        0xad => vector::mov_imm(word, vc, v),
+        0xaf => vector::ors(word, vc, v),
+        0xba => vector::mov(word, vc, v),
+        0xbb => vector::mov_flags(word, vc, v),
+        0xbf | 0xdf => Answer::Done(0),
+        0xc0 | 0xd0 => address::lda_row(word, side, ds, a, c, v),
+        0xc1 | 0xd1 => address::lda_column(word, side, ds, a, c, v),
+        0xc2 | 0xd2 => address::lda_word(word, side, ds, a, c, r),
+        0xc4 | 0xd4 => address::sta_row(word, side, ds, a, c, v),
+        0xc5 | 0xd5 => address::sta_column(word, side, ds, a, c, v),
+        0xc6 | 0xd6 => address::sta_word(word, side, ds, a, c, r),
+        0xca => address::aadd(word, side, a, c),
+        0xcb => address::add(word, side, a, c),
+        0xcc => address::setlo(word, a),
+        0xcd => address::sethi(word, a),
+        0xd3 => address::bitop(word, a, c),
+        0xd8 => address::ld_row(word, ds, a, c, v),
+        0xd9 => address::ld_column(word, ds, a, c, v),
+        0xda => address::ld_word(word, ds, a, c, r),
+        0xdc => address::st_row(word, ds, a, c, v),
+        0xdd => address::st_column(word, ds, a, c, v),
+        0xde => address::st_word(word, ds, a, c, r),
+        _ => Answer::Refused(words::unknown(op)),
     }
-    to_step(triple(word, side, mask, ds, a, r, c, vc, v))
 }
 
 fn report(end: End, steps: u32, accesses: u64) -> Ran
@@ -205,4 +175,38 @@ pub fn run(
         i += 3;
     }
     report(End::All, steps, accesses)
+}
+
+// What a list of one triple came to; with a budget of 1 it ends neither ragged nor spent.
+fn one_step(x: Ran) -> Stepped
+    ensures { λ r. ⌜ r ≡ toStep x ⌝ }
+{
+    let end = x.end;
+    match end {
+        End::All => Stepped::Done(x.accesses),
+        End::Refused(k) => Stepped::Refused(k),
+        End::Lengths => Stepped::Lengths,
+        End::Ragged => Stepped::Lengths,
+        End::Spent => Stepped::Lengths,
+    }
+}
+
+// The single call: a list of one triple, so that the code for all instructions stands in one loop.
+pub fn step(
+    word: u32,
+    side: u32,
+    mask: u32,
+    ds: &mut [u8],
+    a: &mut [u32],
+    r: &mut [u32],
+    c: &mut [u32],
+    vc: &mut [u32],
+    v: &mut [u8],
+) -> Stepped
+    ensures { λ x. ⌜ stepOutcome x (pieces (ds .exit) (a .exit) (r .exit) (c .exit) (vc .exit) (v .exit))
+        ≡ stepOf word side mask (pieces (ds .entry) (a .entry) (r .entry) (c .entry) (vc .entry) (v .entry)) ⌝ }
+{
+    let words = [word, side, mask];
+    let x = run(&words, 1, ds, a, r, c, vc, v);
+    one_step(x)
 }

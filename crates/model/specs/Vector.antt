@@ -5,7 +5,7 @@ use mathlib.Core.List.{List, [], _∷_}
 use lib.Bits.{bitOr}
 use lib.ListN.{replicate}
 use Rattle.lanes.specs.Lanes.{arithLanes, shiftLanes, clipLanes, add9Lanes, minAbsLanes, bitopLanes, logicLanes, cmpadFlags, swizzled, movLanes, movImmLanes, flagBytes}
-use Rattle.lanes.specs.declared.Lanes.{Lanes}
+use Rattle.lanes.specs.Lanes.{Lanes}
 use Rattle.lanes.specs.declared.Flags.{Flags}
 use Rattle.words.specs.declared.Second.{Second}
 use Rattle.words.specs.declared.Second.the-variants.{Register, Byte, Absent}

@@ -4,26 +4,14 @@ ghost use lib.ListN.{length};
 ghost use Rattle.draws.specs.Room.{Room};
 use draws::chance::Inputs;
 use draws::lengths::lent;
+use queries::Listed;
+use queries::Swap;
+use queries::Triple;
 
 // What a step answers, and the accesses that it reports.
 pub struct Stepped {
     pub answer: u32,
     pub accesses: u64,
-}
-
-// What may_swap answers, and its verdict.
-pub struct Swap {
-    pub answer: u32,
-    pub clash: u32,
-    pub place: u32,
-    pub writer: u32,
-}
-
-// What places answers, and its counts.
-pub struct Listed {
-    pub answer: u32,
-    pub reads: u32,
-    pub writes: u32,
 }
 
 pub fn step(
@@ -53,41 +41,11 @@ pub fn step(
     Stepped { answer, accesses }
 }
 
-fn swap_of(
-    first: Inputs,
-    second: Inputs,
-    ds: &[u8],
-    a: &[u32],
-    r: &[u32],
-    c: &[u32],
-    vc: &[u32],
-    v: &[u8],
-) -> Swap {
-    let mut clash: u32 = 0;
-    let mut place: u32 = 0;
-    let mut writer: u32 = 0;
-    let answer = vp1::pairs::vp1_may_swap(
-        first.word,
-        first.side,
-        first.mask,
-        second.word,
-        second.side,
-        second.mask,
-        ds,
-        a,
-        r,
-        c,
-        vc,
-        v,
-        &mut clash,
-        &mut place,
-        &mut writer,
-    );
-    Swap {
-        answer,
-        clash,
-        place,
-        writer,
+fn triple_of(t: Inputs) -> Triple {
+    Triple {
+        word: t.word,
+        side: t.side,
+        mask: t.mask,
     }
 }
 
@@ -110,9 +68,9 @@ pub fn may_swap(
     let n3 = lent(wrong, 3, 4);
     let n4 = lent(wrong, 4, 4);
     let n5 = lent(wrong, 5, 512);
-    swap_of(
-        first,
-        second,
+    queries::may_swap(
+        triple_of(first),
+        triple_of(second),
         &ds[0..n0],
         &a[0..n1],
         &r[0..n2],
@@ -120,39 +78,6 @@ pub fn may_swap(
         &vc[0..n4],
         &v[0..n5],
     )
-}
-
-fn places_of(
-    t: Inputs,
-    buffer: &mut [u32],
-    ds: &[u8],
-    a: &[u32],
-    r: &[u32],
-    c: &[u32],
-    vc: &[u32],
-    v: &[u8],
-) -> Listed {
-    let mut reads: u32 = 0;
-    let mut writes: u32 = 0;
-    let answer = vp1::pairs::vp1_places(
-        t.word,
-        t.side,
-        t.mask,
-        ds,
-        a,
-        r,
-        c,
-        vc,
-        v,
-        buffer,
-        &mut reads,
-        &mut writes,
-    );
-    Listed {
-        answer,
-        reads,
-        writes,
-    }
 }
 
 // The buffer is lent with its first n words.
@@ -177,8 +102,8 @@ pub fn places(
     let n3 = lent(wrong, 3, 4);
     let n4 = lent(wrong, 4, 4);
     let n5 = lent(wrong, 5, 512);
-    places_of(
-        t,
+    queries::places(
+        triple_of(t),
         &mut buffer[0..n],
         &ds[0..n0],
         &a[0..n1],

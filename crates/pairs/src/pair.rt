@@ -1,7 +1,6 @@
 // One pair: parts 3 to 5 of docs/PAIRS.md, and the order of all five.
 ghost use Prim.Native.Nat.{_≤_};
 use crate::calls;
-use crate::calls::Swap;
 use crate::kinds;
 use crate::orders;
 use crate::state;
@@ -12,6 +11,7 @@ use draws::chance::draw;
 use draws::chance::mix;
 use draws::pieces;
 use draws::print;
+use queries::Swap;
 
 // Where a block stands: its free and its clashing pairs so far, and whether a free pair's order made a difference, which ends the program.
 pub struct Tally {

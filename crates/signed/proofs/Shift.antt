@@ -1,47 +1,82 @@
--- The code's shifts of a small signed number are the definition's.
-use mathlib.Core.Path.{_≡_, sym, ap, _∙_, subst}
-use mathlib.Core.Bool.{true, false}
-use Prim.Native.Nat.{ℕ, zero, suc, _+_, _-_, _*_, _%_, _^_, _≤_, _<_}
-use native.Mathlib.Nat.{add-mul, mul-le-mul, mul-pos, lt-of-le-of-lt, zero-add}
+-- The code's shift of a small signed number, eight bits up and then down by the count and eight, is the definition's.
+use mathlib.Core.Path.{_≡_, refl, sym, ap, _∙_}
+use Prim.Native.Nat.{ℕ, zero, suc, _+_, _-_, _*_, _^_, _<_}
+use native.Mathlib.Nat.{add-mul, mul-assoc, lt-of-le-of-lt}
 use native.Mathlib.Omega.{arith}
-use lib.Dec.{T}
-use lib.Pow.{pow-mono, pow-pos}
+use lib.Pow.{pow-add, pow-pos, shl-shr, shr-shr, high, ones-lt, ones-split}
 use lib.IntN.{ℤ, pos, negsuc, _-ℤ_, _*ℤ_, negℤ}
-use lib.Signed.{mag, ltZ, shrZ, mag-shr}
-use borrow.Author.Tests.{ltb-true}
+use lib.Signed.{mag, shrZ, mag-shr}
+use borrow.Author.Tests.{le-ltb}
 use mir.Syntax.{w32}
 use mir.Val.{SFits, ofZ, toZ}
-use mir.Facts.{toZ-ofZ, toZ-pos, toZ-neg}
+use mir.Facts.{toZ-ofZ}
 use Rattle.signed.specs.Signed.{shifted}
 
-negative : (p : ℕ) → 0 < p → p < 2 ^ 31 → toZ w32 (2 ^ 32 - p) ≡ negℤ (pos p)
-negative zero h k = let z : ⊥ = omega arith in absurd z
-negative (suc p) h k = toZ-neg w32 p (omega arith)
+-- a product by its sign
+abbrev times : ℤ → ℕ → ℤ
+times (pos a) m = pos (a * m)
+times (negsuc a) m = negsuc (a * m + (m - 1))
 
-times : (s : ℤ) (m : ℕ) → mag s < 256 → 0 < m → m ≤ 512 → toZ w32 (ofZ w32 s * m % 2 ^ 32) ≡ s *ℤ pos m
-times (pos a) m h p k =
-    let b : a * m ≤ 512 * 512 = mul-le-mul {n₂ = 512} (omega arith) k in
-    let e : a * m % 2 ^ 32 ≡ a * m = omega arith in rw e (toZ-pos w32 (omega arith))
-times (negsuc a) m h p k =
-    let b : suc a * m ≤ 512 * 512 = mul-le-mul {n₂ = 512} (omega arith) k in
-    let q : 0 < suc a * m = mul-pos (omega arith) p in
-    let d : (2 ^ 32 - suc a) * m + suc a * m ≡ 2 ^ 32 * m = sym (add-mul (2 ^ 32 - suc a) (suc a) m) ∙ ap (λ (k : ℕ). k * m) (omega arith) in
-    let e : (2 ^ 32 - suc a) * m % 2 ^ 32 ≡ 2 ^ 32 - suc a * m = omega arith in rw e (negative (suc a * m) q (omega arith))
+negative : (m n : ℕ) → m ≡ suc n → negℤ (pos m) ≡ negsuc n
+negative m n e = rw e
 
-pub count-left : (n : ℤ) → mag n < 8 → ltZ n (pos 0) ≡ true → ofZ w32 (pos 0 -ℤ n) < 32
-count-left (pos k) h e = omega (arith, ltb-true k 0 e)
-count-left (negsuc k) h e = omega arith
+times-is : (s : ℤ) (m : ℕ) → 0 < m → s *ℤ pos m ≡ times s m
+times-is (pos a) m h = refl
+times-is (negsuc a) m h = negative (suc a * m) (a * m + (m - 1)) (omega (arith, add-mul a 1 m))
 
-pub left-is : (s n : ℤ) → mag s < 256 → mag n < 8 → ltZ n (pos 0) ≡ true → toZ w32 (ofZ w32 s * 2 ^ ofZ w32 (pos 0 -ℤ n) % 2 ^ 32) ≡ shifted s n
+times-one : (s : ℤ) → times s 1 ≡ s
+times-one (pos a) = ap pos (omega arith)
+times-one (negsuc a) = ap negsuc (omega arith)
+
+mag-times : (s : ℤ) → mag s < 256 → mag (times s 256) < 2 ^ 31
+mag-times (pos a) h = omega arith
+mag-times (negsuc a) h = omega arith
+
+split : (a i j : ℕ) → a * 2 ^ (i + j) ≡ a * 2 ^ i * 2 ^ j
+split a i j = ap (λ (m : ℕ). a * m) (pow-add 2 i j) ∙ sym (mul-assoc a (2 ^ i) (2 ^ j))
+
+-- up by i + j bits and down by j
+down : (s : ℤ) (i j : ℕ) → shrZ (times s (2 ^ (i + j))) (2 ^ j) ≡ times s (2 ^ i)
+down (pos a) i j = rw (split a i j) (ap pos (shl-shr (a * 2 ^ i) j))
+down (negsuc a) i j =
+    let e : a * 2 ^ (i + j) + (2 ^ (i + j) - 1) ≡ (a * 2 ^ i + (2 ^ i - 1)) * 2 ^ j + (2 ^ j - 1) =
+    omega (arith, split a i j, ones-split i j, add-mul (a * 2 ^ i) (2 ^ i - 1) (2 ^ j)) in
+    rw e (ap negsuc (high (a * 2 ^ i + (2 ^ i - 1)) j (ones-lt j)))
+
+down-down : (s : ℤ) (i j : ℕ) → shrZ (shrZ s (2 ^ i)) (2 ^ j) ≡ shrZ s (2 ^ (i + j))
+down-down (pos a) i j = ap pos (shr-shr a i j)
+down-down (negsuc a) i j = ap negsuc (shr-shr a i j)
+
+-- the count and eight
+abbrev places : ℤ → ℕ
+places (pos k) = 8 + k
+places (negsuc k) = 7 - k
+
+count-is : (n : ℤ) → mag n < 8 → pos 8 -ℤ negℤ n ≡ pos (places n)
+count-is (pos zero) h = refl
+count-is (pos (suc k)) h = refl
+count-is (negsuc k) h = rw (le-ltb 8 (suc k) (omega arith)) (ap pos (omega arith))
+
+places-small : (n : ℤ) → mag n < 8 → places n < 16
+places-small (pos k) h = omega arith
+places-small (negsuc k) h = omega arith
+
+raise-and-lower : (s n : ℤ) → mag n < 8 → shrZ (times s 256) (2 ^ places n) ≡ shifted s n
 unfolding shifted
-left-is s (pos k) f h e = let z : ⊥ = omega (arith, ltb-true k 0 e) in absurd z
-left-is s (negsuc k) f h e = rw (zero-add (suc k)) (times s (2 ^ suc k) f (pow-pos (suc k)) (pow-mono {j = 9} (omega arith)))
+raise-and-lower s (pos k) h = sym (down-down (times s 256) 8 k) ∙ ap (λ (z : ℤ). shrZ z (2 ^ k)) (down s 0 8 ∙ times-one s)
+raise-and-lower s (negsuc k) h =
+    let e : suc k + (7 - k) ≡ 8 = omega arith in (rw e at (down s (suc k) (7 - k))) ∙ sym (times-is s (2 ^ suc k) (pow-pos (suc k)))
 
-pub count-right : (n : ℤ) → mag n < 8 → ltZ n (pos 0) ≡ false → ofZ w32 n < 32
-count-right (pos k) h e = omega arith
-count-right (negsuc k) h e = absurd (subst T e tt)
+module _ (s n : ℤ) (hs : mag s < 256) (hn : mag n < 8) where
+  pub raised-fits : SFits w32 (s *ℤ pos 256)
+  raised-fits = rw (times-is s 256 (omega arith)) (record { sfits = mag-times s hs })
 
-pub right-is : (s n : ℤ) → SFits w32 s → ltZ n (pos 0) ≡ false → toZ w32 (ofZ w32 (shrZ s (2 ^ ofZ w32 n))) ≡ shifted s n
-unfolding shifted
-right-is s (pos k) f e = toZ-ofZ (record { sfits = lt-of-le-of-lt (mag-shr s (2 ^ k)) (f .sfits) })
-right-is s (negsuc k) f e = absurd (subst T e tt)
+  pub count-fits : SFits w32 (pos 8 -ℤ negℤ n)
+  count-fits = rw (count-is n hn) (record { sfits = omega (arith, places-small n hn) })
+
+  pub count-small : ofZ w32 (pos 8 -ℤ negℤ n) < 32
+  count-small = rw (count-is n hn) (omega (arith, places-small n hn))
+
+  pub shifted-is : toZ w32 (ofZ w32 (shrZ (s *ℤ pos 256) (2 ^ ofZ w32 (pos 8 -ℤ negℤ n)))) ≡ shifted s n
+  shifted-is = rw (count-is n hn, times-is s 256 (omega arith))
+      (toZ-ofZ (record { sfits = lt-of-le-of-lt (mag-shr (times s 256) (2 ^ places n)) (mag-times s hs) }) ∙ raise-and-lower s n hn)

@@ -2,11 +2,11 @@
 use mathlib.Core.Path.{_≡_, refl, sym, ap, subst, _∙_}
 use mathlib.Core.Bool.{Bool, true, false, cond}
 use Prim.Native.Nat.{ℕ, zero, suc, _+_, _-_, _*_, _/_, _%_, _^_, _≤_, _<_}
-use native.Mathlib.Nat.{add-mul, suc-mul, pow-suc, mod-lt}
+use native.Mathlib.Nat.{add-mul, suc-mul, one-mul, pow-suc, mod-lt}
 use native.Mathlib.Numerals.{add-one}
 use native.Mathlib.Omega.{arith}
 use lib.Dec.{T, ltb, eqb}
-use lib.Bits.{bitAnd, and-mask}
+use lib.Bits.{bitAnd, bitXor, and-mask, xor-comm, xor-zero-r, xor-shifted, xor-block, xor-lt}
 use lib.Pow as Pow
 use lib.IntN.{ℤ, pos, negsuc, _+ℤ_, _-ℤ_, negℤ, subℕ, natAbs, +ℤ-idl}
 use lib.Signed.{mag, ltZ, nonNeg, natAbs-le}
@@ -55,9 +55,16 @@ pub sext-neg : (x k n : ℕ) → x % 2 ^ (k + 1) ≡ n → 2 ^ k ≤ n → sext 
 unfolding sext
 sext-neg x k n e h = rw (e, le-ltb n (2 ^ k) h)
 
+pub pos-down : (a b : ℕ) → a < b → pos a -ℤ pos b ≡ negsuc (b - suc a)
+pos-down a zero h = let z : ⊥ = omega arith in absurd z
+pos-down a (suc d) h = rw (lt-ltb a (suc d) h)
+
+pub pos-up : (a b : ℕ) → b ≤ a → pos a -ℤ pos b ≡ pos (a - b)
+pos-up a zero h = ap pos (omega arith)
+pos-up a (suc d) h = rw (le-ltb a (suc d) h)
+
 mag-down : (n w m : ℕ) → n < w → w ≤ n + m → mag (pos n -ℤ pos w) < m
-mag-down n zero m h k = let z : ⊥ = omega arith in absurd z
-mag-down n (suc d) m h k = rw (lt-ltb n (suc d) h) (omega arith)
+mag-down n w m h k = rw (pos-down n w h) (omega arith)
 
 pub twice : (k : ℕ) → 2 ^ (k + 1) ≡ 2 ^ k + 2 ^ k
 twice k = rw (add-one k) (omega (arith, pow-suc 2 k))
@@ -76,31 +83,53 @@ unfolding widen
 mag-widen false x h = h
 mag-widen true x h = omega (arith, mag-sext x 7)
 
--- what the code makes of a width: the number above k + 1 bits, and those bits
+-- bit k turned over
+pub flip-up : (k n : ℕ) → n < 2 ^ k → bitXor n (2 ^ k) ≡ n + 2 ^ k
+flip-up k n h = xor-comm n (2 ^ k) ∙ (simp one-mul at (xor-shifted 1 k n h)) ∙ omega arith
+
+pub flip-down : (k n : ℕ) → 2 ^ k ≤ n → n < 2 ^ k + 2 ^ k → bitXor n (2 ^ k) ≡ n - 2 ^ k
+flip-down k n h l =
+    let up : n ≡ 1 * 2 ^ k + (n - 2 ^ k) = omega arith in
+    let bit : 2 ^ k ≡ 1 * 2 ^ k + 0 = omega arith in
+    ap (λ (a : ℕ). bitXor a (2 ^ k)) up ∙ ap (λ (b : ℕ). bitXor (1 * 2 ^ k + (n - 2 ^ k)) b) bit
+    ∙ xor-block k 1 1 (n - 2 ^ k) 0 (omega arith) (Pow.pow-pos k) ∙ rw (xor-zero-r (n - 2 ^ k)) (omega arith)
+
+-- the sign bit turned over and taken away again reads the low k + 1 bits as a signed number
+flip-sext : (x k : ℕ) → pos (bitXor (x % 2 ^ (k + 1)) (2 ^ k)) -ℤ pos (2 ^ k) ≡ sext x k
+flip-sext x k = pick (x % 2 ^ (k + 1)) (ltb (x % 2 ^ (k + 1)) (2 ^ k)) refl refl
+  where
+    pick : (n : ℕ) (t : Bool) → x % 2 ^ (k + 1) ≡ n → ltb n (2 ^ k) ≡ t → pos (bitXor n (2 ^ k)) -ℤ pos (2 ^ k) ≡ sext x k
+    pick n true e t =
+        let l : n < 2 ^ k = ltb-true n (2 ^ k) t in
+        rw (flip-up k n l, pos-up (n + 2 ^ k) (2 ^ k) (omega arith), sext-pos x k n e l) (ap pos (omega arith))
+    pick n false e t =
+        let l : 2 ^ k ≤ n = ltb-false n (2 ^ k) t in
+        let two : 2 ^ (k + 1) ≡ 2 ^ k + 2 ^ k = twice k in
+        let u : n < 2 ^ (k + 1) = omega (arith, mod-lt x (Pow.pow-pos (k + 1))) in
+        rw (flip-down k n l (omega arith), pos-down (n - 2 ^ k) (2 ^ k) (omega arith), sext-neg x k n e l, pos-down n (2 ^ (k + 1)) u)
+        (ap negsuc (omega arith))
+
+-- what the code makes of a width: the sign bit, and the low k + 1 bits with it turned over
 module _ (k : ℕ) (h : k < 16) where
-  pub full-small : 2 ^ (k + 1) ≤ 65536
-  full-small = omega (arith, twice k, Pow.pow-mono {i = k} {j = 15} (omega arith))
+  pub half-small : 2 ^ k ≤ 32768
+  half-small = Pow.pow-mono {i = k} {j = 15} (omega arith)
 
-  pub full-is : 2 * 2 ^ k % 2 ^ 32 ≡ 2 ^ (k + 1)
-  full-is = omega (arith, twice k, full-small)
+  pub half-is : 1 * 2 ^ k % 2 ^ 32 ≡ 2 ^ k
+  half-is = omega (arith, half-small)
 
-  pub masked-is : (x : ℕ) → bitAnd x (2 * 2 ^ k % 2 ^ 32 - 1) ≡ x % 2 ^ (k + 1)
-  masked-is x = rw full-is (and-mask x (k + 1))
+  pub flipped-is : (x : ℕ) → bitXor (bitAnd x (2 ^ k + 2 ^ k - 1)) (2 ^ k) ≡ bitXor (x % 2 ^ (k + 1)) (2 ^ k)
+  flipped-is x = rw (← twice k, and-mask x (k + 1))
 
-  pub masked-small : (x : ℕ) → x % 2 ^ (k + 1) < 65536
-  masked-small x = omega (arith, mod-lt x (Pow.pow-pos (k + 1)), full-small)
+  pub flipped-small : (x : ℕ) → bitXor (x % 2 ^ (k + 1)) (2 ^ k) < 65536
+  flipped-small x =
+      xor-lt 16 (x % 2 ^ (k + 1)) (2 ^ k) (omega (arith, mod-lt x (Pow.pow-pos (k + 1)), twice k, half-small)) (omega (arith, half-small))
 
-  pub down-fits : (x : ℕ) → SFits w32 (pos (x % 2 ^ (k + 1)) -ℤ pos (2 ^ (k + 1)))
-  down-fits x =
-      let a = pos (x % 2 ^ (k + 1)) in let b = pos (2 ^ (k + 1)) in
-      record { sfits = omega (arith, mag-add a (negℤ b), mag-neg b, masked-small x, full-small) }
+  pub flippedZ : (x : ℕ) → toZ w32 (bitXor (x % 2 ^ (k + 1)) (2 ^ k)) -ℤ toZ w32 (2 ^ k) ≡ sext x k
+  flippedZ x =
+      rw (byteZ (bitXor (x % 2 ^ (k + 1)) (2 ^ k)) (omega (arith, flipped-small x)), byteZ (2 ^ k) (omega (arith, half-small))) (flip-sext x k)
 
-  -- the bits and the number above them, read as signed numbers
-  pub maskedZ : (x : ℕ) → toZ w32 (x % 2 ^ (k + 1)) ≡ pos (x % 2 ^ (k + 1))
-  maskedZ x = byteZ (x % 2 ^ (k + 1)) (omega (arith, masked-small x))
-
-  pub fullZ : toZ w32 (2 ^ (k + 1)) ≡ pos (2 ^ (k + 1))
-  fullZ = byteZ (2 ^ (k + 1)) (omega (arith, full-small))
+  pub sext-fits : (x : ℕ) → SFits w32 (sext x k)
+  sext-fits x = record { sfits = omega (arith, mag-sext x k, half-small) }
 
 -- the low k bits, as the code takes them
 low-neg : (j k n : ℕ) → j + k ≡ 32 → n < 2 ^ 32 → (2 ^ 32 - suc n) % 2 ^ k ≡ (2 ^ k - 1) - n % 2 ^ k

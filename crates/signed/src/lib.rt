@@ -2,7 +2,6 @@
 ghost use mathlib.Core.Path.{_≡_};
 ghost use mathlib.Core.Bool.{cond};
 ghost use Prim.Native.Nat.{_<_};
-ghost use lib.IntN.{natAbs};
 ghost use lib.Signed.{mag};
 ghost use Rattle.signed.specs.Signed.{sext, widen, low, clip, shifted};
 
@@ -18,13 +17,8 @@ pub fn sext(x: u32, k: u32) -> i32
     requires { ⌜ k < 16 ⌝ }
     ensures { λ r. ⌜ r ≡ sext x k ⌝ }
 {
-    let full = 2u32 << k;
-    let n = x & (full - 1);
-    if n < full / 2 {
-        n as i32
-    } else {
-        n as i32 - full as i32
-    }
+    let half = 1u32 << k;
+    ((x & (half + half - 1)) ^ half) as i32 - half as i32
 }
 
 pub fn widen(signed: bool, x: u8) -> i32
@@ -51,17 +45,11 @@ pub fn clip(lo: i32, hi: i32, z: i32) -> i32
     pick(z < lo, lo, pick(hi < z, hi, z))
 }
 
-pub fn magnitude(z: i32) -> u32
-    requires { ⌜ mag z < 256 ⌝ }
-    ensures { λ r. ⌜ r ≡ natAbs z ⌝ }
-{
-    if z < 0 { -z as u32 } else { z as u32 }
-}
-
-// A negative count shifts left.
+// A negative count shifts left. Both go by one shift to the right of a number that is moved eight bits up, so that no branch is needed.
 pub fn shifted(s: i32, n: i32) -> i32
     requires { ⌜ (mag s < 256) × (mag n < 8) ⌝ }
     ensures { λ r. ⌜ r ≡ shifted s n ⌝ }
 {
-    if n < 0 { s << -n } else { s >> n }
+    let left = -n;
+    (s * 256) >> (8 - left)
 }

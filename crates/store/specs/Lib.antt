@@ -1,3 +1,3 @@
 -- The definitions of loads, stores and the raw view.
 pub mod Store
-pub mod Ring
+pub mod Steps

@@ -1,83 +1,180 @@
 // Loads and stores of the data store, over a lent slice of 8,192 bytes, and the raw view of a bank.
 use banks::Way;
 ghost use mathlib.Core.Path.{_≡_};
-ghost use Prim.Native.Nat.{_<_, _≤_};
-ghost use lib.ListN.{length};
-ghost use Rattle.banks.specs.Line.{addresses, places, countOf};
+ghost use mathlib.Core.List.{[], _∷_};
+ghost use Prim.Native.Nat.{_+_, _/_, _%_, _<_, _≤_};
+ghost use lib.ListN.{length, drop};
+ghost use Rattle.banks.specs.Bank.{at};
+ghost use Rattle.banks.specs.Line.{addresses, places, startOf, strideOf};
 ghost use Rattle.banks.specs.declared.Way.the-variants.{Horizontal, Vertical, Scalar};
-ghost use Rattle.store.specs.Ring.{ring, ringPlace, Within};
+ghost use Rattle.store.specs.Steps.{upto, stepped, paired, inBank};
 ghost use Rattle.store.specs.Store.{loaded, stored, wordOf, bytesOf, bankView};
 
-// An access translated once, before its loop: from `bank` at line `top` the bank goes round, at each byte or, where `half` is 1, at each
-// second, and the line goes down.
-struct Ring {
-    bank: usize,
-    half: usize,
-    top: usize,
-    down: usize,
-}
+// ---- rows: a line's byte in each of the sixteen banks, from one bank on round
 
-// Down an odd number of lines, one, goes only a column of code 0: two of its bytes are a cell's halves, in one bank.
-fn translated(way: Way, code: usize, addr: usize) -> Ring
-    requires { ⌜ code < 4 ⌝ }
-    ensures { λ r. ⌜ Within r × (ring r (countOf way) ≡ places code (addresses way code addr)) ⌝ }
+// In the order of the banks, twice, so that a row lies in one piece wherever it begins. (Of an array behind a reference the proof does not
+// know the length by itself.)
+fn banked(ds: &[u8], line: usize, w: &mut [u8; 32])
+    requires { ⌜ (length (now ds) ≡ 8192) × (line < 512) × (length (now w) ≡ 32) ⌝ }
+    ensures { λ _. ⌜ now (w .exit) ≡ loaded (now (ds .entry)) (upto (inBank line) 32) ⌝ }
 {
-    let start = banks::start(way, code, addr);
-    let down = banks::step(way, code) / 16;
-    Ring {
-        bank: banks::bank(code, start),
-        half: down % 2,
-        top: start / 16,
-        down: down,
+    for k in 0..16 {
+        let b = ds[512 * k + line];
+        w[k] = b;
+        w[16 + k] = b;
     }
 }
 
-// The place of the i-th byte, without a branch.
-fn place(r: Ring, i: usize) -> usize
-    requires { ⌜ Within r × (i < 16) ⌝ }
-    ensures { λ p. ⌜ p ≡ ringPlace r i ⌝ }
+fn part(w: &[u8; 32], first: usize) -> [u8; 16]
+    requires { ⌜ first ≤ 16 ⌝ }
+    ensures { λ r. ⌜ r ≡ loaded (now (w .entry)) (upto (λ i. first + i) 16) ⌝ }
 {
-    (r.bank + (i >> r.half)) % 16 * 512 + (r.top + i * r.down)
-}
-
-fn gather(ds: &[u8], r: Ring, out: &mut [u8])
-    requires { ⌜ (length (now ds) ≡ 8192) × (length (now out) ≤ 16) × Within r ⌝ }
-    ensures { λ _. ⌜ now (out .exit) ≡ loaded (now (ds .entry)) (ring r (length (now (out .entry)))) ⌝ }
-{
-    let mut i = 0;
-    while i < out.len() {
-        out[i] = ds[place(r, i)];
-        i += 1;
+    let mut x = [0u8; 16];
+    for i in 0..16 {
+        x[i] = w[first + i];
     }
-}
-
-fn scatter(ds: &mut [u8], r: Ring, bytes: &[u8])
-    requires { ⌜ (length (now ds) ≡ 8192) × (length (now bytes) ≤ 16) × Within r ⌝ }
-    ensures { λ _. ⌜ now (ds .exit) ≡ stored (now (ds .entry)) (ring r (length (now (bytes .entry)))) (now (bytes .entry)) ⌝ }
-{
-    let mut i = 0;
-    while i < bytes.len() {
-        ds[place(r, i)] = bytes[i];
-        i += 1;
-    }
+    x
 }
 
 pub fn load_row(ds: &[u8], code: usize, addr: usize) -> [u8; 16]
     requires { ⌜ (length (now ds) ≡ 8192) × (code < 4) ⌝ }
     ensures { λ r. ⌜ r ≡ loaded (now (ds .entry)) (places code (addresses Horizontal code addr)) ⌝ }
 {
-    let mut out = [0u8; 16];
-    gather(ds, translated(Way::Horizontal, code, addr), &mut out);
-    out
+    let start = banks::start(Way::Horizontal, code, addr);
+    let mut w = [0u8; 32];
+    banked(ds, start / 16, &mut w);
+    part(&w, banks::bank(code, start))
 }
 
-pub fn load_column(ds: &[u8], code: usize, addr: usize) -> [u8; 16]
-    requires { ⌜ (length (now ds) ≡ 8192) × (code < 4) ⌝ }
-    ensures { λ r. ⌜ r ≡ loaded (now (ds .entry)) (places code (addresses Vertical code addr)) ⌝ }
+// The same of a row that is to be stored.
+fn doubled(x: [u8; 16], w: &mut [u8; 32])
+    requires { ⌜ length (now w) ≡ 32 ⌝ }
+    ensures { λ _. ⌜ now (w .exit) ≡ loaded x (upto (λ i. i % 16) 32) ⌝ }
 {
-    let mut out = [0u8; 16];
-    gather(ds, translated(Way::Vertical, code, addr), &mut out);
-    out
+    for i in 0..16 {
+        let b = x[i];
+        w[i] = b;
+        w[16 + i] = b;
+    }
+}
+
+// Bank by bank, which is not the row's order: each byte has its own bank, so the order does not matter.
+fn to_banks(ds: &mut [u8], line: usize, w: &[u8; 32], first: usize)
+    requires { ⌜ (length (now ds) ≡ 8192) × (line < 512) × (first ≤ 16) ⌝ }
+    ensures { λ _. ⌜ now (ds .exit) ≡ stored (now (ds .entry)) (upto (inBank line) 16) (drop first (now (w .entry))) ⌝ }
+{
+    for k in 0..16 {
+        ds[512 * k + line] = w[first + k];
+    }
+}
+
+pub fn store_row(ds: &mut [u8], code: usize, addr: usize, bytes: [u8; 16])
+    requires { ⌜ (length (now ds) ≡ 8192) × (code < 4) ⌝ }
+    ensures { λ _. ⌜ now (ds .exit) ≡ stored (now (ds .entry)) (places code (addresses Horizontal code addr)) bytes ⌝ }
+{
+    let start = banks::start(Way::Horizontal, code, addr);
+    let mut w = [0u8; 32];
+    doubled(bytes, &mut w);
+    to_banks(ds, start / 16, &w, 16 - banks::bank(code, start));
+}
+
+// ---- columns and words: from the first place on by equal steps, round the store
+
+// Where an access begins.
+fn first_place(way: Way, code: usize, addr: usize) -> usize
+    requires { ⌜ code < 4 ⌝ }
+    ensures { λ r. ⌜ (r ≡ at code (startOf way code addr)) × (r < 8192) ⌝ }
+{
+    let start = banks::start(way, code, addr);
+    banks::bank(code, start) * 512 + start / 16
+}
+
+// The step of a column of code 1 to 3: the next bank, and the stride's lines down. One number for each code, which the
+// compiler cannot split into a sum.
+fn step_of(code: usize) -> usize
+    requires { ⌜ 0 < code ⌝ }
+    ensures { λ r. ⌜ (r ≡ 512 + strideOf code / 16) × (r ≤ 520) ⌝ }
+{
+    match code {
+        1 => 514,
+        2 => 516,
+        _ => 520,
+    }
+}
+
+fn gather(ds: &[u8], first: usize, step: usize, out: &mut [u8])
+    requires { ⌜ (length (now ds) ≡ 8192) × (length (now out) ≡ 16) × (first < 8192) × (step < 8192) ⌝ }
+    ensures { λ _. ⌜ now (out .exit) ≡ loaded (now (ds .entry)) (upto (stepped first step) 16) ⌝ }
+{
+    let mut at = first;
+    for i in 0..16 {
+        out[i] = ds[at];
+        at = (at + step) % 8192;
+    }
+}
+
+// Code 0: the halves of a cell lie side by side.
+fn gather_pairs(ds: &[u8], first: usize, out: &mut [u8])
+    requires { ⌜ (length (now ds) ≡ 8192) × (length (now out) ≡ 16) × (first < 8192) × (first % 2 ≡ 0) ⌝ }
+    ensures { λ _. ⌜ now (out .exit) ≡ loaded (now (ds .entry)) (upto (paired first) 16) ⌝ }
+{
+    let mut at = first;
+    for i in 0..8 {
+        let x = ds[at];
+        let y = ds[at + 1];
+        out[2 * i] = x;
+        out[2 * i + 1] = y;
+        at = (at + 514) % 8192;
+    }
+}
+
+pub fn load_column(ds: &[u8], code: usize, addr: usize, out: &mut [u8])
+    requires { ⌜ (length (now ds) ≡ 8192) × (length (now out) ≡ 16) × (code < 4) ⌝ }
+    ensures { λ _. ⌜ now (out .exit) ≡ loaded (now (ds .entry)) (places code (addresses Vertical code addr)) ⌝ }
+{
+    let first = first_place(Way::Vertical, code, addr);
+    if code == 0 {
+        gather_pairs(ds, first, out);
+    } else {
+        gather(ds, first, step_of(code), out);
+    }
+}
+
+fn scatter(ds: &mut [u8], first: usize, step: usize, bytes: &[u8])
+    requires { ⌜ (length (now ds) ≡ 8192) × (length (now bytes) ≡ 16) × (first < 8192) × (step < 8192) ⌝ }
+    ensures { λ _. ⌜ now (ds .exit) ≡ stored (now (ds .entry)) (upto (stepped first step) 16) (now (bytes .entry)) ⌝ }
+{
+    let mut at = first;
+    for i in 0..16 {
+        ds[at] = bytes[i];
+        at = (at + step) % 8192;
+    }
+}
+
+fn scatter_pairs(ds: &mut [u8], first: usize, bytes: &[u8])
+    requires { ⌜ (length (now ds) ≡ 8192) × (length (now bytes) ≡ 16) × (first < 8192) × (first % 2 ≡ 0) ⌝ }
+    ensures { λ _. ⌜ now (ds .exit) ≡ stored (now (ds .entry)) (upto (paired first) 16) (now (bytes .entry)) ⌝ }
+{
+    let mut at = first;
+    for i in 0..8 {
+        let x = bytes[2 * i];
+        let y = bytes[2 * i + 1];
+        ds[at] = x;
+        ds[at + 1] = y;
+        at = (at + 514) % 8192;
+    }
+}
+
+pub fn store_column(ds: &mut [u8], code: usize, addr: usize, bytes: &[u8])
+    requires { ⌜ (length (now ds) ≡ 8192) × (length (now bytes) ≡ 16) × (code < 4) ⌝ }
+    ensures { λ _. ⌜ now (ds .exit) ≡ stored (now (ds .entry)) (places code (addresses Vertical code addr)) (now (bytes .entry)) ⌝ }
+{
+    let first = first_place(Way::Vertical, code, addr);
+    if code == 0 {
+        scatter_pairs(ds, first, bytes);
+    } else {
+        scatter(ds, first, step_of(code), bytes);
+    }
 }
 
 fn wide(x: u8) -> u32
@@ -87,46 +184,34 @@ fn wide(x: u8) -> u32
 }
 
 // A word from its bytes, low first.
-fn joined(b: [u8; 4]) -> u32
-    ensures { λ r. ⌜ r ≡ wordOf b ⌝ }
+fn joined(b0: u8, b1: u8, b2: u8, b3: u8) -> u32
+    ensures { λ r. ⌜ r ≡ wordOf (b0 ∷ b1 ∷ b2 ∷ b3 ∷ []) ⌝ }
 {
-    wide(b[0]) + (wide(b[1]) + (wide(b[2]) + wide(b[3]) * 256) * 256) * 256
+    wide(b0) + (wide(b1) + (wide(b2) + wide(b3) * 256) * 256) * 256
 }
 
 pub fn load_word(ds: &[u8], code: usize, addr: usize) -> u32
     requires { ⌜ (length (now ds) ≡ 8192) × (code < 4) ⌝ }
     ensures { λ r. ⌜ r ≡ wordOf (loaded (now (ds .entry)) (places code (addresses Scalar code addr))) ⌝ }
 {
-    let mut out = [0u8; 4];
-    gather(ds, translated(Way::Scalar, code, addr), &mut out);
-    joined(out)
-}
-
-pub fn store_row(ds: &mut [u8], code: usize, addr: usize, bytes: [u8; 16])
-    requires { ⌜ (length (now ds) ≡ 8192) × (code < 4) ⌝ }
-    ensures { λ _. ⌜ now (ds .exit) ≡ stored (now (ds .entry)) (places code (addresses Horizontal code addr)) bytes ⌝ }
-{
-    scatter(ds, translated(Way::Horizontal, code, addr), &bytes);
-}
-
-pub fn store_column(ds: &mut [u8], code: usize, addr: usize, bytes: [u8; 16])
-    requires { ⌜ (length (now ds) ≡ 8192) × (code < 4) ⌝ }
-    ensures { λ _. ⌜ now (ds .exit) ≡ stored (now (ds .entry)) (places code (addresses Vertical code addr)) bytes ⌝ }
-{
-    scatter(ds, translated(Way::Vertical, code, addr), &bytes);
+    let at = first_place(Way::Scalar, code, addr);
+    joined(
+        ds[at],
+        ds[(at + 512) % 8192],
+        ds[(at + 1024) % 8192],
+        ds[(at + 1536) % 8192],
+    )
 }
 
 pub fn store_word(ds: &mut [u8], code: usize, addr: usize, word: u32)
     requires { ⌜ (length (now ds) ≡ 8192) × (code < 4) ⌝ }
     ensures { λ _. ⌜ now (ds .exit) ≡ stored (now (ds .entry)) (places code (addresses Scalar code addr)) (bytesOf word) ⌝ }
 {
-    let bytes = [
-        (word % 256) as u8,
-        (word / 256 % 256) as u8,
-        (word / 65536 % 256) as u8,
-        (word / 16777216 % 256) as u8,
-    ];
-    scatter(ds, translated(Way::Scalar, code, addr), &bytes);
+    let at = first_place(Way::Scalar, code, addr);
+    ds[at] = (word % 256) as u8;
+    ds[(at + 512) % 8192] = (word / 256 % 256) as u8;
+    ds[(at + 1024) % 8192] = (word / 65536 % 256) as u8;
+    ds[(at + 1536) % 8192] = (word / 16777216 % 256) as u8;
 }
 
 // The raw view: a bank's 512 bytes, as a part of the lent store.

@@ -6,7 +6,7 @@ use mathlib.Core.Bool.{Bool, true, false, cond}
 use mathlib.Core.List.{List, [], _∷_}
 use lib.Dec.{ltb}
 use lib.ListN.{set}
-use Rattle.lanes.specs.declared.Lanes.{Lanes}
+use Rattle.lanes.specs.Lanes.{Lanes}
 use Rattle.regs.specs.Regs.{vregOf, withVreg, flagsAt}
 use Rattle.words.specs.declared.Insn.the-variants as N
 use Rattle.words.specs.declared.Second.{Second}

@@ -1,2 +1,3 @@
 -- The tie to the model.
 pub mod Closed
+pub mod Pair

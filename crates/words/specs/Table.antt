@@ -14,8 +14,11 @@ use Rattle.words.specs.Fields.{fieldsOf, secondOf, inputOf}
 use Rattle.words.specs.declared.Fields.{Fields}
 use Rattle.words.specs.declared.Half.{Half}
 use Rattle.words.specs.declared.Half.the-variants.{Low, High}
+use Rattle.words.specs.declared.Increment.{Increment}
 use Rattle.words.specs.declared.Increment.the-variants as I
+use Rattle.words.specs.declared.Second.{Second}
 use Rattle.words.specs.declared.Second.the-variants as S
+use Rattle.words.specs.declared.Refusal.{Refusal}
 use Rattle.words.specs.declared.Refusal.the-variants.{Foreign, Undocumented, SideIndex, SideMask}
 use Rattle.words.specs.declared.Address.{Address}
 use Rattle.words.specs.declared.Address.the-variants as A
@@ -48,77 +51,137 @@ maskedOf mask i = cond (ltb mask 131072) (vector i) (D.Refused SideMask)
 
 -- ---- the address unit. In stores $a is chosen by DST and the data register by SRC1
 
+abbrev pub setOf : Fields → Half → Address
+setOf f half = A.Set (record { half = half; dst = f .dst; imm = f .half })
+
+abbrev pub addOf : Fields → ℕ → Address
+addOf f side = A.Add (record { dst = f .dst; src1 = f .src1; src2 = side; cdst = f .flags })
+
+abbrev pub aaddOf : Fields → ℕ → Address
+aaddOf f side = A.Aadd (record { dst = f .dst; src2 = side; cdst = f .flags })
+
+abbrev pub bitopOf : Fields → Address
+bitopOf f = A.Bitop (record { op = f .bitop; dst = f .dst; src1 = f .src1; src2 = f .src2; flags = f .flags })
+
+abbrev pub ldOf : Fields → Way → Address
+ldOf f way = A.Ld (record { way = way; reg = f .dst; base = f .src1; uimm = f .uimm; cdst = f .flags })
+
+abbrev pub stOf : Fields → Way → Address
+stOf f way = A.St (record { way = way; reg = f .src1; base = f .dst; uimm = f .uimm; cdst = f .flags })
+
+abbrev pub ldaOf : Fields → Way → Increment → Address
+ldaOf f way inc = A.Lda (record { way = way; reg = f .dst; base = f .src1; inc = inc; cdst = f .flags })
+
+abbrev pub staOf : Fields → Way → Increment → Address
+staOf f way inc = A.Sta (record { way = way; reg = f .src1; base = f .dst; inc = inc; cdst = f .flags })
+
 abbrev pub setRow : Fields → Half → Decoded
-setRow f half = address (A.Set (record { half = half; dst = f .dst; imm = f .half }))
+setRow f half = address (setOf f half)
 
 abbrev pub addRow : Fields → ℕ → Decoded
-addRow f side = sidedOf side (A.Add (record { dst = f .dst; src1 = f .src1; src2 = side; cdst = f .flags }))
+addRow f side = sidedOf side (addOf f side)
 
 abbrev pub aaddRow : Fields → ℕ → Decoded
-aaddRow f side = sidedOf side (A.Aadd (record { dst = f .dst; src2 = side; cdst = f .flags }))
+aaddRow f side = sidedOf side (aaddOf f side)
 
 abbrev pub bitopRow : Fields → Decoded
-bitopRow f = address (A.Bitop (record { op = f .bitop; dst = f .dst; src1 = f .src1; src2 = f .src2; flags = f .flags }))
+bitopRow f = address (bitopOf f)
 
 abbrev pub ldRow : Fields → Way → Decoded
-ldRow f way = address (A.Ld (record { way = way; reg = f .dst; base = f .src1; uimm = f .uimm; cdst = f .flags }))
+ldRow f way = address (ldOf f way)
 
 abbrev pub stRow : Fields → Way → Decoded
-stRow f way = address (A.St (record { way = way; reg = f .src1; base = f .dst; uimm = f .uimm; cdst = f .flags }))
+stRow f way = address (stOf f way)
 
 abbrev pub ldaRow : Fields → Way → ℕ → Decoded
-ldaRow f way side = sidedOf side (A.Lda (record { way = way; reg = f .dst; base = f .src1; inc = I.Register side; cdst = f .flags }))
+ldaRow f way side = sidedOf side (ldaOf f way (I.Register side))
 
 abbrev pub staRow : Fields → Way → ℕ → Decoded
-staRow f way side = sidedOf side (A.Sta (record { way = way; reg = f .src1; base = f .dst; inc = I.Register side; cdst = f .flags }))
+staRow f way side = sidedOf side (staOf f way (I.Register side))
 
 abbrev pub ldaImmRow : Fields → Way → Decoded
-ldaImmRow f way = address (A.Lda (record { way = way; reg = f .dst; base = f .src1; inc = I.Immediate (f .imm); cdst = f .flags }))
+ldaImmRow f way = address (ldaOf f way (I.Immediate (f .imm)))
 
 abbrev pub staImmRow : Fields → Way → Decoded
-staImmRow f way = address (A.Sta (record { way = way; reg = f .src1; base = f .dst; inc = I.Immediate (f .imm); cdst = f .flags }))
+staImmRow f way = address (staOf f way (I.Immediate (f .imm)))
 
 -- ---- the vector unit
 
+abbrev pub arithOf : Fields → Calc → Bool → Second → Vector
+arithOf f calc signed second = W.Arith (record { calc = calc; signed = signed; dst = f .dst; src1 = f .src1; second = second; vcdst = f .flags })
+
+abbrev pub shiftOf : Fields → Bool → Second → Vector
+shiftOf f signed second = W.Shift (record { signed = signed; dst = f .dst; src1 = f .src1; second = second; vcdst = f .flags })
+
+abbrev pub clipOf : Fields → Vector
+clipOf f = W.Clip (record { dst = f .dst; src1 = f .src1; src2 = f .src2; src3 = f .src3; vcdst = f .flags })
+
+abbrev pub add9Of : Fields → Vector
+add9Of f = W.Add9 (record { dst = f .dst; src1 = f .src1; src2 = f .src2; src3 = f .src3; vcdst = f .flags })
+
+abbrev pub minAbsOf : Fields → Vector
+minAbsOf f = W.MinAbs (record { dst = f .dst; src1 = f .src1; src2 = f .src2; vcdst = f .flags })
+
+abbrev pub vbitopOf : Fields → Vector
+vbitopOf f = W.Bitop (record { op = f .bitop; dst = f .dst; src1 = f .src1; src2 = f .src2; flags = f .flags })
+
+abbrev pub logicOf : Fields → Logic → Vector
+logicOf f logic = W.Logic (record { logic = logic; dst = f .dst; src1 = f .src1; byte = f .byte; vcdst = f .flags })
+
+abbrev pub cmpadOf : Fields → ℕ → Vector
+cmpadOf f mask = W.Cmpad (record { op = f .cmpop; src1 = f .src1; src2 = f .src2; input = inputOf mask; vcdst = f .flags })
+
+abbrev pub swzOf : Fields → Vector
+swzOf f = W.Swz (record { hi = f .hi; dst = f .dst; src1 = f .src1; src2 = f .src2; src3 = f .src3 })
+
+abbrev pub movOf : Fields → Vector
+movOf f = W.Mov (record { dst = f .dst; src1 = f .src1; vcdst = f .flags })
+
+abbrev pub movImmOf : Fields → Vector
+movImmOf f = W.MovImm (record { dst = f .dst; byte = f .byte; vcdst = f .flags })
+
+abbrev pub movFlagsOf : Fields → Vector
+movFlagsOf f = W.MovFlags (f .dst)
+
 abbrev pub arithRow : Fields → Calc → Bool → Bool → Decoded
-arithRow f calc signed byte = vector (W.Arith (record { calc = calc; signed = signed; dst = f .dst; src1 = f .src1; second = secondOf f byte; vcdst = f .flags }))
+arithRow f calc signed byte = vector (arithOf f calc signed (secondOf f byte))
 
 -- vabs and vneg have no source 2
 abbrev pub unaryRow : Fields → Calc → Bool → Decoded
-unaryRow f calc signed = vector (W.Arith (record { calc = calc; signed = signed; dst = f .dst; src1 = f .src1; second = S.Absent; vcdst = f .flags }))
+unaryRow f calc signed = vector (arithOf f calc signed S.Absent)
 
 abbrev pub shiftRow : Fields → Bool → Bool → Decoded
-shiftRow f signed byte = vector (W.Shift (record { signed = signed; dst = f .dst; src1 = f .src1; second = secondOf f byte; vcdst = f .flags }))
+shiftRow f signed byte = vector (shiftOf f signed (secondOf f byte))
 
 abbrev pub clipRow : Fields → Decoded
-clipRow f = vector (W.Clip (record { dst = f .dst; src1 = f .src1; src2 = f .src2; src3 = f .src3; vcdst = f .flags }))
+clipRow f = vector (clipOf f)
 
 abbrev pub add9Row : Fields → Decoded
-add9Row f = vector (W.Add9 (record { dst = f .dst; src1 = f .src1; src2 = f .src2; src3 = f .src3; vcdst = f .flags }))
+add9Row f = vector (add9Of f)
 
 abbrev pub minAbsRow : Fields → Decoded
-minAbsRow f = vector (W.MinAbs (record { dst = f .dst; src1 = f .src1; src2 = f .src2; vcdst = f .flags }))
+minAbsRow f = vector (minAbsOf f)
 
 abbrev pub vbitopRow : Fields → Decoded
-vbitopRow f = vector (W.Bitop (record { op = f .bitop; dst = f .dst; src1 = f .src1; src2 = f .src2; flags = f .flags }))
+vbitopRow f = vector (vbitopOf f)
 
 abbrev pub logicRow : Fields → Logic → Decoded
-logicRow f logic = vector (W.Logic (record { logic = logic; dst = f .dst; src1 = f .src1; byte = f .byte; vcdst = f .flags }))
+logicRow f logic = vector (logicOf f logic)
 
 abbrev pub cmpadRow : Fields → ℕ → Decoded
-cmpadRow f mask = maskedOf mask (W.Cmpad (record { op = f .cmpop; src1 = f .src1; src2 = f .src2; input = inputOf mask; vcdst = f .flags }))
+cmpadRow f mask = maskedOf mask (cmpadOf f mask)
 
 abbrev pub swzRow : Fields → Decoded
-swzRow f = vector (W.Swz (record { hi = f .hi; dst = f .dst; src1 = f .src1; src2 = f .src2; src3 = f .src3 }))
+swzRow f = vector (swzOf f)
 
 abbrev pub movRow : Fields → Decoded
-movRow f = vector (W.Mov (record { dst = f .dst; src1 = f .src1; vcdst = f .flags }))
+movRow f = vector (movOf f)
 
 abbrev pub movImmRow : Fields → Decoded
-movImmRow f = vector (W.MovImm (record { dst = f .dst; byte = f .byte; vcdst = f .flags }))
+movImmRow f = vector (movImmOf f)
 
 abbrev pub movFlagsRow : Fields → Decoded
-movFlagsRow f = vector (W.MovFlags (f .dst))
+movFlagsRow f = vector (movFlagsOf f)
 
 unfoldable pub rows : Fields → ℕ → ℕ → List Decoded
 rows f side mask =
@@ -147,6 +210,10 @@ rows f side mask =
     -- 0xd8: ldvh, ldvv, lds, .., stvh, stvv, sts, the address nop
     ldRow f Horizontal ∷ ldRow f Vertical ∷ ldRow f Scalar ∷ none ∷ stRow f Horizontal ∷ stRow f Vertical ∷ stRow f Scalar ∷ nop ∷
     []
+
+-- why an opcode that is no instruction's is refused
+abbrev pub unknownOf : ℕ → Refusal
+unknownOf op = cond (ltb op 0x80) Foreign (cond (ltb 0xdf op) Foreign Undocumented)
 
 -- 1: an opcode below 0x80 or above 0xdf. 2: one of those between that is not documented
 unfoldable pub decodeAt : ℕ → Fields → ℕ → ℕ → Decoded

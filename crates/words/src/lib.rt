@@ -1,7 +1,8 @@
 // The instruction word, cut into fields, and the decision by its opcode: an instruction or a refusal.
 ghost use mathlib.Core.Path.{_≡_};
+ghost use Prim.Native.Nat.{_<_};
 ghost use Rattle.words.specs.Fields.{immOf, fieldsOf, secondOf, inputOf};
-ghost use Rattle.words.specs.Table.{sidedOf, maskedOf, setRow, addRow, bitopRow, aaddRow, ldRow, stRow, ldaRow, ldaImmRow, staRow, staImmRow, arithRow, unaryRow, shiftRow, clipRow, add9Row, minAbsRow, vbitopRow, logicRow, cmpadRow, swzRow, movRow, movImmRow, movFlagsRow, decodeOf};
+ghost use Rattle.words.specs.Table.{sidedOf, maskedOf, setRow, addRow, bitopRow, aaddRow, ldRow, stRow, ldaRow, ldaImmRow, staRow, staImmRow, arithRow, unaryRow, shiftRow, clipRow, add9Row, minAbsRow, vbitopRow, logicRow, cmpadRow, swzRow, movRow, movImmRow, movFlagsRow, unknownOf, decodeOf};
 use banks::Way;
 use lanes::Calc;
 use lanes::Logic;
@@ -12,6 +13,12 @@ pub enum Refusal {
     Undocumented,
     SideIndex,
     SideMask,
+}
+
+// One triple's answer, on pieces of right lengths: the cells entered, or why it was refused.
+pub enum Answer {
+    Done(u64),
+    Refused(Refusal),
 }
 
 pub enum Half {
@@ -209,12 +216,11 @@ pub struct Fields {
 pub fn imm_of(word: u32) -> i32
     ensures { λ r. ⌜ r ≡ immOf word ⌝ }
 {
-    let u = word / 8 % 2048;
-    if u < 1024 { u as i32 } else { u as i32 - 2048 }
+    signed::sext(word / 8, 10)
 }
 
 pub fn cut(word: u32) -> Fields
-    ensures { λ r. ⌜ r ≡ fieldsOf word ⌝ }
+    ensures { λ r. ⌜ (r ≡ fieldsOf word) × (r .dst < 32) × (r .src1 < 32) × (r .src2 < 32) × (r .src3 < 32) ⌝ }
 {
     let imm = imm_of(word);
     Fields {
@@ -232,6 +238,25 @@ pub fn cut(word: u32) -> Fields
         imm,
         hi: word / 8 % 2 == 1,
     }
+}
+
+pub fn op_of(word: u32) -> u8
+    ensures { λ r. ⌜ r ≡ fieldsOf word .op ⌝ }
+{
+    (word / 16777216 % 256) as u8
+}
+
+// Why a word whose opcode is no instruction's is refused.
+pub fn unknown(op: u8) -> Refusal
+    ensures { λ r. ⌜ r ≡ unknownOf op ⌝ }
+{
+    if op < 0x80 {
+        return Refusal::Foreign;
+    }
+    if 0xdf < op {
+        return Refusal::Foreign;
+    }
+    Refusal::Undocumented
 }
 
 // An instruction that uses SRC2S: refused where the side index is above 31.

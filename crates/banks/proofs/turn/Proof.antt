@@ -1,23 +1,16 @@
--- The decision by code is the definition's.
+-- The decision by code, and the shift by it, are the definition's.
+use borrow.Author.Needs.{needs}
 use Rattle.banks.specs.Bank.{turnOf}
-use Rattle.banks.proofs.Masks.{turn-rest}
+use Rattle.banks.proofs.Masks.{turn-shift}
 use Rattle.banks.proofs.turn.Statement.{statement}
 use Rattle.banks.proofs.turn.Tie as tie
 
 returns : tie.Need-returns
 unfolding turnOf
-returns c = rw (c .match .keys1)
-
-returns-2 : tie.Need-returns-2
-unfolding turnOf
-returns-2 c = rw (c .match .keys2)
-
-returns-3 : tie.Need-returns-3
-unfolding turnOf
-returns-3 c = rw (c .match .keys3)
-
-returns-4 : tie.Need-returns-4
-returns-4 c = turn-rest _ _ (c .match .rest .0 .0 .1) (c .match .rest .0 .1) (c .match .rest .1)
+returns c = rw (c .if1 .taken)
 
 pub turn-spec : {M : Type 1} → statement M
-turn-spec = tie.close (tie.spec returns returns-2 returns-3 returns-4)
+turn-spec =
+    tie.close
+    (tie.spec (λ c. search needs) (λ c. search needs) returns
+    (λ c. turn-shift _ _ (c .before .pre .0) (c .if1 .left)))

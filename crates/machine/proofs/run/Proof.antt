@@ -12,7 +12,7 @@ use Rattle.model.specs.State.{State, state, sizedOf, Sized}
 use Rattle.model.specs.Run.{RunOutcome, ended, runFrom, runOf}
 use Rattle.model.proofs.Refused.{sized-if}
 use Rattle.machine.specs.Answers.{endNumber, toEnd, runOutcome}
-use Rattle.machine.specs.declared.Answer.the-variants as A
+use Rattle.words.specs.declared.Answer.the-variants as A
 use Rattle.machine.specs.declared.End.{End}
 use Rattle.machine.specs.declared.Ran.{Ran}
 use Rattle.machine.proofs.Turn.{short, ragged, begun, done, spent, turn, halt, cheap}

@@ -1,23 +1,23 @@
--- The scattered ring is the column's places.
-use mathlib.Core.Path.{ap, _∙_}
-use mathlib.Core.List.{List}
-use Prim.Native.Nat.{ℕ}
+-- The steps are the column's places.
 use borrow.Author.Needs.{needs}
-use Rattle.store.specs.Ring.{ring}
-use Rattle.store.specs.Store.{stored}
+use Rattle.store.proofs.Laws.{stored-along}
+use Rattle.store.proofs.Access.{column-places, paired-places, paired-even}
 use Rattle.store.proofs.store_column.Statement.{statement}
 use Rattle.store.proofs.store_column.Tie as tie
+
+scatter-pairs-requires : tie.Need-scatter-pairs-requires
+scatter-pairs-requires c κs =
+    let i = c .before in
+    (search needs, search needs, search needs, paired-even _ _ _ (i .if1 .taken) (i .before .first-place .ensures .0))
 
 pub store-column-spec : {M : Type 1} → statement M
 store-column-spec =
     tie.close
-    (tie.spec
-    (λ c κs. search needs)
+    (tie.spec (λ c κs. search needs) scatter-pairs-requires (λ c κs. search needs) (λ c κs. search needs)
     (λ c. search needs)
-    (λ c κs. search needs)
+    (λ c. let g = c .before .before in let i = g .before .before in
+    stored-along _ _ _ _ _ (g .scatter-pairs .ensures) (paired-places _ _ _ (i .if1 .taken) (i .before .first-place .ensures .0)))
     (λ c. search needs)
-    (λ c.
-    let s = c .before .before .before .before .before .before .before in
-    c .before .before .scatter .ensures
-    ∙ ap (λ (ps : List ℕ). stored (s .args .ds .now) ps (s .args .t4))
-    (ap (ring _) (s .good .1 .1 .1 .0 .1 .0 .1) ∙ c .before .before .before .before .translated .ensures .1)))
+    (λ c. let g = c .before .before in let s = g .before in let i = s .before .before in
+    stored-along _ _ _ _ _ (g .scatter .ensures)
+    (column-places _ _ _ _ (i .if1 .left) (i .before .first-place .ensures .0) (s .step-of .ensures .0))))

@@ -1,29 +1,27 @@
--- The scattered ring is the word's places, and the array holds the word's bytes.
-use mathlib.Core.Path.{ap, _∙_}
+-- The four places are the word's.
+use mathlib.Core.Path.{ap}
 use mathlib.Core.List.{List}
 use Prim.Native.Nat.{ℕ}
+use native.Mathlib.Omega.{arith}
 use borrow.Author.Needs.{needs}
+use lib.ListN.{length-set}
 use Rattle.store.specs.Store.{stored, bytesOf}
+use Rattle.store.proofs.Access.{word-places}
 use Rattle.store.proofs.store_word.Statement.{statement}
 use Rattle.store.proofs.store_word.Tie as tie
 
 returns : tie.Need-returns
-unfolding bytesOf
+unfolding stored bytesOf
 returns c =
-    let a = c .before .before .before .before .before .before .before .args in
-    c .before .before .scatter .ensures
-    ∙ ap (λ (ps : List ℕ). stored (a .ds .now) ps (bytesOf (a .word))) (c .before .before .before .before .translated .ensures .1)
+    let a = c .before .before .args in
+    let e = c .first-place .ensures in
+    ap (λ (ps : List ℕ). stored (a .ds .now) ps (bytesOf (a .word))) (word-places _ _ _ (e .0) (e .1))
 
 pub store-word-spec : {M : Type 1} → statement M
 store-word-spec =
     tie.close
-    (tie.spec
-    (λ c. search needs)
-    (λ c. search needs)
-    (λ c. search needs)
-    (λ c. search needs)
-    (λ c κs. search needs)
-    (λ c. search needs)
-    (λ c κs. search needs)
-    (λ c. search needs)
-    returns)
+    (tie.spec (λ c κs. search needs) (λ c. search needs) (λ c. search needs)
+    (λ c. search needs) (λ c. search needs) (λ c. simp length-set (omega arith))
+    (λ c. search needs) (λ c. search needs) (λ c. simp length-set (omega arith))
+    (λ c. search needs) (λ c. search needs) (λ c. simp length-set (omega arith))
+    (λ c. search needs) returns)

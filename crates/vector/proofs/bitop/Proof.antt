@@ -1,12 +1,12 @@
 -- `vector::bitop` meets its contract.
-use Rattle.vector.specs.Effect.{vectored}
-use Rattle.words.specs.Bounded.{BoundedV}
+use mathlib.Core.Path.{_≡_, refl, _∙_}
+use Rattle.vector.specs.Effect.{answerOf, vectored, secondOf}
 use borrow.Author.Needs.{needs}
 use Rattle.vector.proofs.bitop.Statement.{statement}
 use Rattle.vector.proofs.bitop.Tie as tie
 
 pub bitop-spec : {M : Type 1} → statement M
-unfolding BoundedV vectored
+unfolding answerOf vectored secondOf
 bitop-spec =
     tie.close
     (tie.spec
@@ -14,6 +14,7 @@ bitop-spec =
     (λ c κs. search needs)
     (λ c κs. search needs)
     (λ c κs. search needs)
+    (λ c κs. search needs)
     (λ c. search needs)
     (λ c. search needs)
-    (λ c. cc))
+    (λ c. c .before .before .before .before .put .ensures ∙ rw (c .before .before .before .before .before .before .before .bitop .ensures, c .before .before .before .before .before .before .before .before .vreg2 .ensures, c .before .before .before .before .before .before .before .before .before .before .vreg .ensures, c .before .before .before .before .before .before .before .before .before .before .before .before .cut .ensures .0) refl))

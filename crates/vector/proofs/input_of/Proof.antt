@@ -1,4 +1,6 @@
 -- `vector::input_of` meets its contract.
+use mathlib.Core.Path.{refl}
+use borrow.Author.Tests.{lt-ltb, le-ltb}
 use Rattle.vector.specs.Effect.{inputOf}
 use borrow.Author.Needs.{needs}
 use Rattle.vector.proofs.input_of.Statement.{statement}
@@ -13,6 +15,5 @@ input-of-spec =
     (λ c. search needs)
     (λ c. search needs)
     (λ c. search needs)
-    (λ c. search needs)
-    (λ c. rw (c .before .input .given .1))
-    (λ c. rw (c .before .enum-told .given .1)))
+    (λ c. rw (lt-ltb (c .before .before .args .mask) 65536 (c .before .if1 .taken)) refl)
+    (λ c. rw (le-ltb (c .before .args .mask) 65536 (c .if1 .left)) refl))

@@ -1,18 +1,19 @@
 -- `vector::mov` meets its contract.
-use Rattle.vector.specs.Effect.{vectored}
-use Rattle.words.specs.Bounded.{BoundedV}
+use mathlib.Core.Path.{_≡_, refl, _∙_}
+use Rattle.vector.specs.Effect.{answerOf, vectored, secondOf}
 use borrow.Author.Needs.{needs}
 use Rattle.vector.proofs.mov.Statement.{statement}
 use Rattle.vector.proofs.mov.Tie as tie
 
 pub mov-spec : {M : Type 1} → statement M
-unfolding BoundedV vectored
+unfolding answerOf vectored secondOf
 mov-spec =
     tie.close
     (tie.spec
     (λ c κs. search needs)
     (λ c κs. search needs)
     (λ c κs. search needs)
+    (λ c κs. search needs)
     (λ c. search needs)
     (λ c. search needs)
-    (λ c. cc))
+    (λ c. c .before .before .before .before .put .ensures ∙ rw (c .before .before .before .before .before .before .before .mov .ensures, c .before .before .before .before .before .before .before .before .vreg .ensures, c .before .before .before .before .before .before .before .before .before .before .cut .ensures .0) refl))

@@ -1,15 +1,16 @@
 -- `vector::mov_flags` meets its contract.
-use Rattle.vector.specs.Effect.{vectored}
-use Rattle.words.specs.Bounded.{BoundedV}
+use mathlib.Core.Path.{refl}
+use Rattle.vector.specs.Effect.{answerOf, vectored}
 use borrow.Author.Needs.{needs}
 use Rattle.vector.proofs.mov_flags.Statement.{statement}
 use Rattle.vector.proofs.mov_flags.Tie as tie
 
 pub mov-flags-spec : {M : Type 1} → statement M
-unfolding BoundedV vectored
+unfolding answerOf vectored
 mov-flags-spec =
     tie.close
     (tie.spec
+    (λ c κs. search needs)
     (λ c. search needs)
     (λ c. search needs)
     (λ c. search needs)
@@ -17,4 +18,4 @@ mov-flags-spec =
     (λ c κs. search needs)
     (λ c κs. search needs)
     (λ c. search needs)
-    (λ c. cc))
+    (λ c. rw (c .before .before .set-vreg .ensures, c .before .before .before .flag-bytes .ensures, c .before .before .before .before .before .before .before .before .before .cut .ensures .0) refl))

@@ -1,17 +1,18 @@
 -- `vector::mov_imm` meets its contract.
-use Rattle.vector.specs.Effect.{vectored}
-use Rattle.words.specs.Bounded.{BoundedV}
+use mathlib.Core.Path.{_≡_, refl, _∙_}
+use Rattle.vector.specs.Effect.{answerOf, vectored, secondOf}
 use borrow.Author.Needs.{needs}
 use Rattle.vector.proofs.mov_imm.Statement.{statement}
 use Rattle.vector.proofs.mov_imm.Tie as tie
 
 pub mov-imm-spec : {M : Type 1} → statement M
-unfolding BoundedV vectored
+unfolding answerOf vectored secondOf
 mov-imm-spec =
     tie.close
     (tie.spec
     (λ c κs. search needs)
     (λ c κs. search needs)
+    (λ c κs. search needs)
     (λ c. search needs)
     (λ c. search needs)
-    (λ c. cc))
+    (λ c. c .before .before .before .before .put .ensures ∙ rw (c .before .before .before .before .before .before .before .mov-imm .ensures, c .before .before .before .before .before .before .before .before .cut .ensures .0) refl))

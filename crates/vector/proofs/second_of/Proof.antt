@@ -9,12 +9,7 @@ unfolding secondOf
 second-of-spec =
     tie.close
     (tie.spec
-    (λ c. search needs)
-    (λ c κs. let s = c .before .before .before .before in (s .pre .0, rw (c .before .s .given .1) at (s .pre .1)))
-    (λ c. search needs)
     (λ c κs. search needs)
-    (λ c. search needs)
     (λ c κs. search needs)
-    (λ c. rw (c .before .before .s .given .1) (c .vreg .ensures))
-    (λ c. rw (c .before .before .s2 .given .1) (c .splat .ensures))
-    (λ c. rw (c .before .enum-told .given .1) (c .splat2 .ensures)))
+    (λ c. rw (c .before .if1 .taken) (c .splat .ensures))
+    (λ c. rw (c .before .if1 .left) (c .vreg .ensures)))

@@ -1,12 +1,12 @@
 -- `vector::swz` meets its contract.
-use Rattle.vector.specs.Effect.{vectored}
-use Rattle.words.specs.Bounded.{BoundedV}
+use mathlib.Core.Path.{refl}
+use Rattle.vector.specs.Effect.{answerOf, vectored}
 use borrow.Author.Needs.{needs}
 use Rattle.vector.proofs.swz.Statement.{statement}
 use Rattle.vector.proofs.swz.Tie as tie
 
 pub swz-spec : {M : Type 1} → statement M
-unfolding BoundedV vectored
+unfolding answerOf vectored
 swz-spec =
     tie.close
     (tie.spec
@@ -15,5 +15,6 @@ swz-spec =
     (λ c κs. search needs)
     (λ c κs. search needs)
     (λ c κs. search needs)
+    (λ c κs. search needs)
     (λ c. search needs)
-    (λ c. cc))
+    (λ c. rw (c .before .before .set-vreg .ensures, c .before .before .before .swizzle .ensures, c .before .before .before .before .before .vreg3 .ensures, c .before .before .before .before .before .before .before .vreg2 .ensures, c .before .before .before .before .before .before .before .before .before .vreg .ensures, c .before .before .before .before .before .before .before .before .before .before .before .cut .ensures .0) refl))

@@ -1,5 +1,6 @@
--- `words::cut` meets its contract: each cast keeps its field, and IMM is `imm_of`'s.
+-- `words::cut` meets its contract: each cast keeps its field, IMM is `imm_of`'s, and a register's number is below 32.
 use mathlib.Core.Path.{refl}
+use native.Mathlib.Omega.{arith}
 use borrow.Author.Needs.{needs}
 use mir.Syntax.{w32}
 use mir.Val.{SFits}
@@ -25,4 +26,5 @@ cut-spec =
     (λ c. search needs)
     (λ c. search needs)
     (λ c. search needs)
-    (λ c. let h : SFits w32 (c .imm-of .result) = record { sfits = c .imm-of .ok } in rw (toZ-ofZ h, c .imm-of .ensures) refl))
+    (λ c. let h : SFits w32 (c .imm-of .result) = record { sfits = c .imm-of .ok } in
+    (rw (toZ-ofZ h, c .imm-of .ensures) refl, omega arith, omega arith, omega arith, omega arith)))

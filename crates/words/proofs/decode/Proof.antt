@@ -16,6 +16,7 @@ use Rattle.words.specs.declared.Decoded.{Decoded}
 use Rattle.words.specs.declared.Decoded.the-variants as D
 use Rattle.words.specs.declared.Refusal.the-variants.{Foreign, Undocumented, SideIndex, SideMask}
 use Rattle.words.proofs.Law.{Rest, keyed, unkeyed, or-right, at}
+use Rattle.words.proofs.Unkeyed.{bare, bare-is}
 use Rattle.words.proofs.decode.Statement.{statement}
 use Rattle.words.proofs.decode.Tie as tie
 
@@ -32,7 +33,7 @@ module _ (p : tie.After-cut) where
 
   whole : decodeAt (f .op) f side mask ≡ decodeOf (p .before .args .word) side mask
   unfolding decodeOf
-  whole = ap (λ (f : Fields). decodeAt (f .op) f side mask) (p .cut .ensures)
+  whole = ap (λ (f : Fields). decodeAt (f .op) f side mask) (p .cut .ensures .0)
 
   row : {r : Decoded} (k : ℕ) → f .op ≡ k → r ≡ decodeAt k f side mask → r ≡ decodeOf (p .before .args .word) side mask
   row k e q = q ∙ ap (λ (n : ℕ). decodeAt n f side mask) (sym e) ∙ whole
@@ -47,22 +48,6 @@ keys =
     (0xad ∷ []) ∷ (0xac ∷ []) ∷ (0xab ∷ []) ∷ (0xaa ∷ []) ∷ (0xa9 ∷ []) ∷ (0xa8 ∷ []) ∷ (0xa5 ∷ []) ∷ (0xa4 ∷ []) ∷ (0x9f ∷ []) ∷
     (0x9e ∷ []) ∷ (0x9d ∷ []) ∷ (0x9c ∷ []) ∷ (0x9b ∷ []) ∷ (0x9a ∷ []) ∷ (0x99 ∷ []) ∷ (0x98 ∷ []) ∷ (0x94 ∷ []) ∷ (0x8f ∷ []) ∷
     (0x8e ∷ []) ∷ (0x8d ∷ []) ∷ (0x8c ∷ []) ∷ (0x8b ∷ []) ∷ (0x8a ∷ []) ∷ (0x89 ∷ []) ∷ (0x88 ∷ []) ∷ []
-
--- a row that refuses the word as undocumented
-bare : Decoded → Bool
-bare (D.Insn i) = false
-bare (D.Refused Foreign) = false
-bare (D.Refused Undocumented) = true
-bare (D.Refused SideIndex) = false
-bare (D.Refused SideMask) = false
-
-bare-is : (d : Decoded) → T (bare d) → none ≡ d
-unfolding bare
-bare-is (D.Insn i) t = absurd t
-bare-is (D.Refused Foreign) t = absurd t
-bare-is (D.Refused Undocumented) t = refl
-bare-is (D.Refused SideIndex) t = absurd t
-bare-is (D.Refused SideMask) t = absurd t
 
 module _ (f : Fields) (side mask op : ℕ) where
   low : op < 128 → D.Refused Foreign ≡ decodeAt op f side mask

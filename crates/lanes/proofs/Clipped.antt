@@ -1,0 +1,129 @@
+-- Clipped results: their flags from their bytes, and so from the list of the bytes.
+use mathlib.Core.Path.{_≡_, refl, sym, _∙_}
+use mathlib.Core.Bool.{Bool, true, false, cond}
+use mathlib.Core.List.{List}
+use Prim.Native.Nat.{ℕ, _-_, _%_, _^_, _≤_, _<_}
+use native.Mathlib.Omega.{arith}
+use lib.Dec.{eqb, ltb, leb}
+use lib.IntN.{ℤ, pos, negsuc}
+use lib.ListN.{getD, replicate, getD-replicate}
+use lib.Signed.{mag, ltZ}
+use mir.Syntax.{w8}
+use mir.Val.{Val}
+use denote.Array.{each}
+use denote.Plain.{UInt}
+use denote.Shadow.{shadow}
+use borrow.Author.Needs.{elem-fits}
+use borrow.Author.Tests.{ne-eqb, lt-ltb, le-ltb, lt-leb, le-leb, ltb-true, ltb-false}
+use Rattle.signed.specs.Signed.{isZero, low, clip}
+use Rattle.lanes.specs.declared.Calc.{Calc}
+use Rattle.lanes.specs.Lane.{Lane, clipped, arithLane}
+use Rattle.lanes.specs.Lanes.{listed, arithLanes}
+use Rattle.lanes.specs.Marks.{marked}
+use Rattle.lanes.proofs.Marking.{marks}
+use Rattle.lanes.proofs.Listed.{element, listed-is, with-signs}
+
+-- a small number's flags from its low byte
+pub zero-small : (v : ℤ) → mag v < 128 → isZero v ≡ eqb (low 8 v) 0
+unfolding low
+zero-small (pos n) h = let e : n % 2 ^ 8 ≡ n = omega arith in rw e
+zero-small (negsuc n) h = sym (ne-eqb (2 ^ 8 - 1 - n % 2 ^ 8) 0 (λ e. omega arith))
+
+sign-small : (v : ℤ) → mag v < 128 → leb 0x80 (low 8 v) ≡ ltZ v (pos 0)
+unfolding low
+sign-small (pos n) h = lt-leb 0x80 (n % 2 ^ 8) (omega arith) ∙ sym (le-ltb n 0 (omega arith))
+sign-small (negsuc n) h = le-leb 0x80 (2 ^ 8 - 1 - n % 2 ^ 8) (omega arith)
+
+-- clipped as a signed result
+unfoldable into : ℤ → ℤ
+into z = clip (negsuc 0x7f) (pos 0x7f) z
+
+into-pos : (n : ℕ) → into (pos n) ≡ pos (cond (ltb 0x7f n) 0x7f n)
+unfolding into clip
+into-pos n = pick (ltb 0x7f n)
+  where
+    pick : (t : Bool) → cond t (pos 0x7f) (pos n) ≡ pos (cond t 0x7f n)
+    pick true = refl
+    pick false = refl
+
+into-neg : (n : ℕ) → into (negsuc n) ≡ negsuc (cond (ltb 0x7f n) 0x7f n)
+unfolding into clip
+into-neg n = pick (ltb 0x7f n)
+  where
+    pick : (t : Bool) → cond t (negsuc 0x7f) (negsuc n) ≡ negsuc (cond t 0x7f n)
+    pick true = refl
+    pick false = refl
+
+capped : (n : ℕ) → cond (ltb 0x7f n) 0x7f n < 128
+capped n = pick (ltb 0x7f n) refl
+  where
+    pick : (t : Bool) → ltb 0x7f n ≡ t → cond t 0x7f n < 128
+    pick true e = omega arith
+    pick false e = omega (arith, ltb-false 0x7f n e)
+
+into-small : (z : ℤ) → mag (into z) < 128
+into-small (pos n) = rw (into-pos n) (capped n)
+into-small (negsuc n) = rw (into-neg n) (capped n)
+
+into-sign : (z : ℤ) → ltZ (into z) (pos 0) ≡ ltZ z (pos 0)
+into-sign (pos n) = rw (into-pos n) (le-ltb (cond (ltb 0x7f n) 0x7f n) 0 (omega arith) ∙ sym (le-ltb n 0 (omega arith)))
+into-sign (negsuc n) = rw (into-neg n) refl
+
+signed-zero : (z : ℤ) → eqb (clipped true z .byte) 0 ≡ clipped true z .zero
+unfolding clipped into
+signed-zero z = sym (zero-small (into z) (into-small z))
+
+signed-sign : (z : ℤ) → leb 0x80 (clipped true z .byte) ≡ clipped true z .sign
+unfolding clipped into
+signed-sign z = sign-small (into z) (into-small z) ∙ into-sign z
+
+-- clipped as an unsigned result: the byte and whether it was moved
+abbrev pub moved : Bool → ℕ → ℕ → Lane
+moved t e n = record { byte = cond t e n; sign = t; zero = eqb (cond t e n) 0 }
+
+pub within : (n : ℕ) → n < 256 → clipped false (pos n) ≡ moved false 0 n
+unfolding clipped clip low
+within n h = let e : n % 2 ^ 8 ≡ n = omega arith in rw (le-ltb n 0 (omega arith), le-ltb 0xff n (omega arith), e)
+
+pub above : (n : ℕ) → 256 ≤ n → clipped false (pos n) ≡ moved true 255 n
+unfolding clipped clip low
+above n h = rw (le-ltb n 0 (omega arith), lt-ltb 0xff n (omega arith))
+
+pub below : (n m : ℕ) → clipped false (negsuc n) ≡ moved true 0 m
+unfolding clipped clip low
+below n m = refl
+
+pub unsigned-zero : (z : ℤ) → clipped false z .zero ≡ eqb (clipped false z .byte) 0
+unsigned-zero (negsuc n) = rw (below n 0)
+unsigned-zero (pos n) = pick (ltb n 256) refl
+  where
+    pick : (t : Bool) → ltb n 256 ≡ t → clipped false (pos n) .zero ≡ eqb (clipped false (pos n) .byte) 0
+    pick true e = rw (within n (ltb-true n 256 e))
+    pick false e = rw (above n (ltb-false n 256 e))
+
+-- what owning sixteen bytes tells
+pub bytes-fit : (l : List ℕ) (us : List Val) → shadow (each ℕ (UInt w8 .own) l us) → (i : ℕ) → getD l i 0 < 256
+bytes-fit l us p i = elem-fits w8 w8 l us i p tt .fits
+
+-- the sixteen bytes of an operation
+module _ (op : Calc) (a b bs : List ℕ) where
+  pub signed-marks : bs ≡ listed 16 (λ i. arithLane op true (getD a i 0) (getD b i 0) .byte)
+      → marked (record { bytes = bs; tested = bs; tops = bs }) ≡ arithLanes op true a b
+  unfolding arithLanes arithLane
+  signed-marks e =
+      marks _ _ e (λ i h. rw (element _ e i h) (signed-zero _)) (λ i h. rw (element _ e i h) (signed-sign _))
+
+  -- where a byte each tells whether the result was moved
+  pub moved-marks : (ts : List ℕ) → bs ≡ listed 16 (λ i. arithLane op false (getD a i 0) (getD b i 0) .byte)
+      → ts ≡ listed 16 (λ i. cond (arithLane op false (getD a i 0) (getD b i 0) .sign) 255 0)
+      → marked (record { bytes = bs; tested = bs; tops = ts }) ≡ arithLanes op false a b
+  unfolding arithLanes arithLane
+  moved-marks ts e t = with-signs _ (λ i. unsigned-zero _) e t
+
+  -- where it never is
+  pub quiet-marks : bs ≡ listed 16 (λ i. arithLane op false (getD a i 0) (getD b i 0) .byte)
+      → ((i : ℕ) → arithLane op false (getD a i 0) (getD b i 0) .sign ≡ false)
+      → marked (record { bytes = bs; tested = bs; tops = replicate 16 0 }) ≡ arithLanes op false a b
+  quiet-marks e s =
+      moved-marks (replicate 16 0) e
+      (listed-is _ (replicate 16 0) refl (λ i h. rw (getD-replicate {A = ℕ} 16 i 0 0 h, s i)))

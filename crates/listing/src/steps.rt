@@ -1,0 +1,166 @@
+// The run of a listing, from a state of zeros, and the lines that it writes.
+ghost use Prim.Native.Nat.{_≤_, _<_};
+use crate::calls;
+use crate::calls::Stepped;
+use crate::cells;
+use crate::names;
+use draws::print;
+use draws::print::text;
+use queries::Swap;
+use queries::Triple;
+
+// Where the run stands: the steps done, their cell accesses, and whether a step was refused.
+struct Total {
+    steps: u32,
+    cells: u64,
+    stopped: bool,
+}
+
+fn triple_at(words: &[u32; 768], i: usize) -> Triple
+    requires { ⌜ i < 256 ⌝ }
+{
+    let at = i * 3;
+    Triple {
+        word: words[at],
+        side: words[at + 1],
+        mask: words[at + 2],
+    }
+}
+
+fn print_triple(i: usize, t: Triple)
+    requires { ⌜ i < 256 ⌝ }
+{
+    names::decimal(i as u64 + 1);
+    text(b": ");
+    io::print_hex(libc::STDOUT_FILENO, t.word as u64, 8);
+    text(b" ");
+    print::item(t.side as u64);
+    print::number(t.mask as u64);
+    text(b": ");
+}
+
+fn print_swap(s: Swap) {
+    text(b"; with the next: ");
+    if s.answer != 0 {
+        names::refused(s.answer);
+        return;
+    }
+    if s.clash == 0 {
+        text(b"free");
+        return;
+    }
+    text(b"clash at ");
+    names::place(s.place);
+    if s.writer == 1 {
+        text(b", which the first writes");
+    } else {
+        text(b", which the second writes");
+    }
+}
+
+// The answer of a step, with what was said of it and the next one, if there is one.
+fn print_answer(x: Stepped, followed: bool, s: Swap) {
+    if x.answer != 0 {
+        names::refused(x.answer);
+    } else {
+        text(b"done, ");
+        names::counted(x.cells, b" cell");
+        if followed {
+            print_swap(s);
+        }
+    }
+    text(b"\n");
+}
+
+// Wrapping, since a bound on the counts is of no use to any caller: there are at most 256 steps, each with at most 16 cells.
+fn more(total: Total, x: Stepped) -> Total {
+    let mut after = total;
+    if x.answer != 0 {
+        after.stopped = true;
+        return after;
+    }
+    after.steps = std::num::wrapping_add_u32(total.steps, 1);
+    after.cells = std::num::wrapping_add_u64(total.cells, x.cells);
+    after
+}
+
+// Step i, and the question about it and the step `next`, which is met in the same state.
+fn one_step(
+    total: Total,
+    i: usize,
+    t: Triple,
+    followed: bool,
+    next: Triple,
+    banks: &mut [u32; 16],
+    ds: &mut [u8; 8192],
+    a: &mut [u32; 32],
+    r: &mut [u32; 32],
+    c: &mut [u32; 4],
+    vc: &mut [u32; 4],
+    v: &mut [u8; 512],
+) -> Total
+    requires { ⌜ i < 256 ⌝ }
+{
+    print_triple(i, t);
+    let s = queries::may_swap(t, next, ds, a, r, c, vc, v);
+    let places = calls::places(t, ds, a, r, c, vc, v);
+    cells::count(banks, &places);
+    let x = calls::step(t, ds, a, r, c, vc, v);
+    print_answer(x, followed, s);
+    more(total, x)
+}
+
+fn print_end(total: Total, banks: &[u32; 16]) {
+    names::counted(total.steps as u64, b" step");
+    text(b", ");
+    names::counted(total.cells, b" cell");
+    text(b"\n");
+    cells::print_banks(banks);
+}
+
+// The index of the step after i of n, or i where it is the last.
+fn next_of(i: usize, n: usize) -> usize
+    requires { ⌜ (i < n) × (n ≤ 256) ⌝ }
+    ensures { λ r. ⌜ r < 256 ⌝ }
+{
+    if i + 1 < n { i + 1 } else { i }
+}
+
+// The first n steps of the listing's words.
+pub fn run(words: &[u32; 768], n: usize)
+    requires { ⌜ n ≤ 256 ⌝ }
+{
+    let mut banks = [0u32; 16];
+    let mut ds = [0u8; 8192];
+    let mut a = [0u32; 32];
+    let mut r = [0u32; 32];
+    let mut c = [0u32; 4];
+    let mut vc = [0u32; 4];
+    let mut v = [0u8; 512];
+    let mut total = Total {
+        steps: 0,
+        cells: 0,
+        stopped: false,
+    };
+    for i in 0..n {
+        let next = next_of(i, n);
+        total = one_step(
+            total,
+            i,
+            triple_at(words, i),
+            next != i,
+            triple_at(words, next),
+            &mut banks,
+            &mut ds,
+            &mut a,
+            &mut r,
+            &mut c,
+            &mut vc,
+            &mut v,
+        );
+        if total.stopped {
+            break;
+        }
+    }
+    print_end(total, &banks);
+}

@@ -1,0 +1,195 @@
+-- The places of an access are those that the loops go over.
+use mathlib.Core.Path.{_≡_, refl, sym, ap, ap₂, _∙_}
+use mathlib.Core.List.{List, [], _∷_, map-map}
+use Prim.Native.Nat.{ℕ, zero, suc, _+_, _*_, _-_, _/_, _%_, _<_}
+use native.Mathlib.Omega.{arith}
+use native.Mathlib.Nat.{add-zero, mul-add}
+use lib.ListN.{length, drop}
+use Rattle.banks.specs.Bank.{at, turnOf, bankOf}
+use Rattle.banks.specs.Line.{from, line, places, addresses, startOf, stepOf, countOf, strideOf, rowStart, wordStart, columnStart}
+use Rattle.banks.specs.declared.Way.{Way}
+use Rattle.banks.specs.declared.Way.the-variants.{Horizontal, Vertical, Scalar}
+use Rattle.banks.proofs.OneToOne.{bank-lt}
+use Rattle.banks.proofs.Places.{way-lt}
+use Rattle.banks.proofs.Distinct.{map-ext}
+use Rattle.banks.proofs.Banks.{row-bank, column-bank, column0-bank}
+use Rattle.banks.proofs.Masks.{at-line}
+use Rattle.store.specs.Steps.{upto, stepped, paired, inBank}
+use Rattle.store.specs.Store.{loaded, stored}
+use Rattle.store.proofs.Rows.{row-loads, row-stores}
+use Rattle.store.proofs.Steps.{stepped-none}
+
+-- ---- the i-th place of an access: its bank and its line
+
+spin : (x i : ℕ) → (x + i) % 16 ≡ (x % 16 + i) % 16
+spin x i = omega arith
+
+row-round : (c b i : ℕ) → b % 16 + i < 16 → bankOf c (b + i * 1) ≡ (bankOf c b + i) % 16
+unfolding bankOf
+row-round c b i h = row-bank c b i h ∙ spin (b % 16 + turnOf c b) i
+
+-- the bank of the first address begins the round
+first : (c x s y : ℕ) → bankOf c (x + 0 * s) ≡ y → bankOf c x ≡ y
+first c x s y e = let z : x + 0 * s ≡ x = omega arith in rw z at e
+
+column-round : (c a i : ℕ) → bankOf (suc c) (columnStart (suc c) a + i * strideOf (suc c)) ≡ (bankOf (suc c) (columnStart (suc c) a) + i) % 16
+column-round c a i =
+    let l = a % strideOf (suc c) % 16 in
+    let e : bankOf (suc c) (columnStart (suc c) a) ≡ (l + 0) % 16 = first (suc c) _ (strideOf (suc c)) _ (column-bank c a 0) in
+    rw e (column-bank c a i ∙ spin l i ∙ ap (λ (n : ℕ). (n % 16 + i) % 16) (sym (add-zero l)))
+
+-- the lines that an access goes down from byte to byte; it is odd, one, only in a column of code 0, whose banks come twice each
+abbrev downOf : Way → ℕ → ℕ
+downOf w c = stepOf w c / 16
+
+round : (w : Way) (c a i : ℕ) → i < countOf w → downOf w c % 2 ≡ 0
+    → bankOf c (startOf w c a + i * stepOf w c) ≡ (bankOf c (startOf w c a) + i) % 16
+unfolding startOf stepOf rowStart wordStart strideOf
+round Horizontal c a i h e = row-round c (rowStart a) i (omega arith)
+round Vertical zero a i h e = absurd (omega arith)
+round Vertical (suc c) a i h e = column-round c a i
+round Scalar c a i h e = row-round c (wordStart a) i (omega arith)
+
+column-lines : (c x i : ℕ) → (x + i * strideOf c) / 16 ≡ x / 16 + i * (strideOf c / 16)
+unfolding strideOf
+column-lines zero x i = omega arith
+column-lines (suc zero) x i = omega arith
+column-lines (suc (suc zero)) x i = omega arith
+column-lines (suc (suc (suc c))) x i = omega arith
+
+lines : (w : Way) (c a i : ℕ) → i < countOf w → (startOf w c a + i * stepOf w c) / 16 ≡ startOf w c a / 16 + i * downOf w c
+unfolding startOf stepOf rowStart wordStart
+lines Horizontal c a i h = omega arith
+lines Vertical c a i h = column-lines c (columnStart c a) i
+lines Scalar c a i h = omega arith
+
+pub start-lt : (w : Way) (c a : ℕ) → startOf w c a < 8192
+start-lt Horizontal c a = omega (arith, way-lt Horizontal c a 0 (omega arith))
+start-lt Vertical c a = omega (arith, way-lt Vertical c a 0 (omega arith))
+start-lt Scalar c a = omega (arith, way-lt Scalar c a 0 (omega arith))
+
+-- ---- the lists
+
+-- a step to the next bank, x lines down in all
+steps : (b t i x : ℕ) → t + x < 512 → (b + i) % 16 * 512 + (t + x) ≡ (b * 512 + t + (i * 512 + x)) % 8192
+steps b t i x h = omega arith
+
+pairs : (b t i : ℕ) → t + i * 1 < 512 → (b + i / 2) % 16 * 512 + (t + i * 1) ≡ ((b + 0) % 16 * 512 + t + i / 2 * 514) % 8192 + i % 2
+pairs b t i h = omega arith
+
+module _ (w : Way) (c a : ℕ) where
+  first-at : at c (startOf w c a) ≡ bankOf c (startOf w c a) * 512 + startOf w c a / 16
+  first-at = at-line c (startOf w c a) (start-lt w c a)
+
+  line-lt : (i : ℕ) → i < countOf w → startOf w c a / 16 + i * downOf w c < 512
+  line-lt i l = omega (arith, lines w c a i l, way-lt w c a i l)
+
+  places-by : (g : ℕ → ℕ) → ((i : ℕ) → i < countOf w → at c (startOf w c a + i * stepOf w c) ≡ g i)
+      → upto g (countOf w) ≡ places c (addresses w c a)
+  unfolding places addresses line upto
+  places-by g h =
+      map-ext g (λ k. at c (startOf w c a + k * stepOf w c)) 0 (countOf w) (λ i l. sym (h i (omega arith)))
+      ∙ sym (map-map (at c) (λ k. startOf w c a + k * stepOf w c) (from 0 (countOf w)))
+
+  module _ (even : downOf w c % 2 ≡ 0) where
+    nth : (i : ℕ) → i < countOf w
+        → at c (startOf w c a + i * stepOf w c) ≡ (bankOf c (startOf w c a) + i) % 16 * 512 + (startOf w c a / 16 + i * downOf w c)
+    nth i l = at-line c _ (way-lt w c a i l) ∙ ap₂ (λ (x y : ℕ). x * 512 + y) (round w c a i l even) (lines w c a i l)
+
+    -- equal steps from the first place on
+    stepped-places : upto (stepped (at c (startOf w c a)) (512 + downOf w c)) (countOf w) ≡ places c (addresses w c a)
+    unfolding stepped
+    stepped-places =
+        places-by (stepped (at c (startOf w c a)) (512 + downOf w c))
+        (λ i l.
+        nth i l
+        ∙ (rw (first-at, mul-add i 512 (downOf w c)) (steps (bankOf c (startOf w c a)) (startOf w c a / 16) i (i * downOf w c) (line-lt i l))))
+
+-- ---- what the functions go over
+
+pub placed : (w : Way) (c a s b : ℕ) → s ≡ startOf w c a → b ≡ bankOf c s
+    → (b * 512 + s / 16 ≡ at c (startOf w c a)) × (b * 512 + s / 16 < 8192)
+placed w c a s b e f =
+    let h : bankOf c s < 16 = bank-lt c s in (
+      rw (f, e) (sym (first-at w c a)),
+      omega (arith, start-lt w c a),
+    )
+
+row-places : (c a : ℕ) → upto (λ i. inBank (startOf Horizontal c a / 16) (bankOf c (startOf Horizontal c a) + i)) 16
+    ≡ places c (addresses Horizontal c a)
+unfolding inBank stepOf
+row-places c a =
+    places-by Horizontal c a (λ i. inBank (startOf Horizontal c a / 16) (bankOf c (startOf Horizontal c a) + i))
+    (λ i l. nth Horizontal c a refl i l ∙ omega arith)
+
+module _ (c a s b : ℕ) (e : s ≡ startOf Horizontal c a) (f : b ≡ bankOf c s) where
+  line-lt-512 : s / 16 < 512
+  line-lt-512 = omega (arith, start-lt Horizontal c a)
+
+  bank-lt-16 : b < 16
+  bank-lt-16 = omega (arith, bank-lt c s)
+
+  row-from : upto (λ i. inBank (s / 16) (b + i)) 16 ≡ places c (addresses Horizontal c a)
+  row-from = rw (f, e) (row-places c a)
+
+  pub row-loaded : (ds w r : List ℕ) → w ≡ loaded ds (upto (inBank (s / 16)) 32) → r ≡ loaded w (upto (λ i. b + i) 16)
+      → r ≡ loaded ds (places c (addresses Horizontal c a))
+  row-loaded ds w r p q = q ∙ (rw p (row-loads (s / 16) b ds bank-lt-16 ∙ ap (loaded ds) row-from))
+
+  pub row-stored : (ds x w end : List ℕ) → length ds ≡ 8192 → w ≡ loaded x (upto (λ i. i % 16) 32)
+      → end ≡ stored ds (upto (inBank (s / 16)) 16) (drop (16 - b) w) → end ≡ stored ds (places c (addresses Horizontal c a)) x
+  row-stored ds x w end h p q =
+      q ∙ (rw p (row-stores (s / 16) b ds x line-lt-512 bank-lt-16 h ∙ ap (λ (ps : List ℕ). stored ds ps x) row-from))
+
+pub word-places : (c a p : ℕ) → p ≡ at c (startOf Scalar c a) → p < 8192
+    → p ∷ (p + 512) % 8192 ∷ (p + 1024) % 8192 ∷ (p + 1536) % 8192 ∷ [] ≡ places c (addresses Scalar c a)
+unfolding stepOf upto stepped
+word-places c a p e h =
+    ap (λ (x : ℕ). x ∷ (p + 512) % 8192 ∷ (p + 1024) % 8192 ∷ (p + 1536) % 8192 ∷ []) (stepped-none p 512 h)
+    ∙ (rw e (stepped-places Scalar c a refl))
+
+even-down : (c : ℕ) → (c ≡ 0 → ⊥) → strideOf c / 16 % 2 ≡ 0
+unfolding strideOf
+even-down zero h = absurd (h refl)
+even-down (suc zero) h = refl
+even-down (suc (suc zero)) h = refl
+even-down (suc (suc (suc c))) h = refl
+
+pub column-places : (c a p s : ℕ) → (c ≡ 0 → ⊥) → p ≡ at c (startOf Vertical c a) → s ≡ 512 + strideOf c / 16
+    → upto (stepped p s) 16 ≡ places c (addresses Vertical c a)
+unfolding stepOf
+column-places c a p s h e f = rw (f, e) (stepped-places Vertical c a (even-down c h))
+
+-- the last arm of the decision by code
+pub step-rest : (c : ℕ) → 0 < c → (c ≡ 1 → ⊥) → (c ≡ 2 → ⊥) → 520 ≡ 512 + strideOf c / 16
+unfolding strideOf
+step-rest zero h p q = absurd (omega arith)
+step-rest (suc zero) h p q = absurd (p refl)
+step-rest (suc (suc zero)) h p q = absurd (q refl)
+step-rest (suc (suc (suc c))) h p q = refl
+
+-- a column of code 0
+module _ (a : ℕ) where
+  first-bank : bankOf 0 (startOf Vertical 0 a) ≡ (a % 16 + 0) % 16
+  unfolding startOf
+  first-bank = first 0 _ (strideOf 0) _ (column0-bank a 0 (omega arith))
+
+  pairs-places : upto (paired (at 0 (startOf Vertical 0 a))) 16 ≡ places 0 (addresses Vertical 0 a)
+  unfolding startOf stepOf strideOf paired stepped
+  pairs-places =
+      places-by Vertical 0 a (paired (at 0 (startOf Vertical 0 a)))
+      (λ i l.
+      at-line 0 _ (way-lt Vertical 0 a i l)
+      ∙ ap₂ (λ (x y : ℕ). x * 512 + y) (column0-bank a i l) (lines Vertical 0 a i l)
+      ∙ (rw (first-at Vertical 0 a, first-bank) (pairs (a % 16) (columnStart 0 a / 16) i (line-lt Vertical 0 a i l))))
+
+  pairs-even : at 0 (startOf Vertical 0 a) % 2 ≡ 0
+  unfolding startOf columnStart strideOf
+  pairs-even = rw (first-at Vertical 0 a) (omega arith)
+
+module _ (c a p : ℕ) (z : c ≡ 0) (e : p ≡ at c (startOf Vertical c a)) where
+  pub paired-places : upto (paired p) 16 ≡ places c (addresses Vertical c a)
+  paired-places = rw (e, z) (pairs-places a)
+
+  pub paired-even : p % 2 ≡ 0
+  paired-even = rw (e, z) (pairs-even a)

@@ -1,0 +1,36 @@
+-- Laws of steps round the store.
+use mathlib.Core.Path.{_≡_}
+use Prim.Native.Nat.{ℕ, _+_, _*_, _/_, _%_, _<_}
+use native.Mathlib.Omega.{arith}
+use native.Mathlib.Nat.{add-mul}
+use Rattle.store.specs.Steps.{stepped, paired}
+
+module _ (first step : ℕ) where
+  pub stepped-none : first < 8192 → first ≡ stepped first step 0
+  unfolding stepped
+  stepped-none h = omega arith
+
+  pub stepped-more : (i at : ℕ) → at ≡ stepped first step i → (at + step) % 8192 ≡ stepped first step (i + 1)
+  unfolding stepped
+  stepped-more i at e =
+      let m : (i + 1) * step ≡ i * step + 1 * step = add-mul i 1 step in
+      rw (e, m) (omega arith)
+
+module _ (first : ℕ) where
+  pub paired-low : (i : ℕ) → stepped first 514 i ≡ paired first (2 * i)
+  unfolding paired
+  paired-low i =
+      let e : 2 * i / 2 ≡ i = omega arith in
+      let f : 2 * i % 2 ≡ 0 = omega arith in
+      rw (e, f) (omega arith)
+
+  pub paired-high : (i : ℕ) → stepped first 514 i + 1 ≡ paired first (2 * i + 1)
+  unfolding paired
+  paired-high i =
+      let e : (2 * i + 1) / 2 ≡ i = omega arith in
+      let f : (2 * i + 1) % 2 ≡ 1 = omega arith in
+      rw (e, f)
+
+  pub high-lt : (i : ℕ) → first % 2 ≡ 0 → stepped first 514 i + 1 < 8192
+  unfolding stepped
+  high-lt i h = omega arith

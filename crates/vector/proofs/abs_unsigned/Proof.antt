@@ -1,0 +1,19 @@
+-- `vector::abs_unsigned` meets its contract.
+use mathlib.Core.Path.{_≡_, refl, _∙_}
+use Rattle.vector.specs.Effect.{answerOf, vectored, secondOf}
+use borrow.Author.Needs.{needs}
+use Rattle.vector.proofs.abs_unsigned.Statement.{statement}
+use Rattle.vector.proofs.abs_unsigned.Tie as tie
+
+pub abs-unsigned-spec : {M : Type 1} → statement M
+unfolding answerOf vectored secondOf
+abs-unsigned-spec =
+    tie.close
+    (tie.spec
+    (λ c κs. search needs)
+    (λ c κs. search needs)
+    (λ c κs. search needs)
+    (λ c κs. search needs)
+    (λ c. search needs)
+    (λ c. search needs)
+    (λ c. c .before .before .before .before .put .ensures ∙ rw (c .before .before .before .before .before .before .before .abs-unsigned .ensures, c .before .before .before .before .before .before .before .before .vreg .ensures, c .before .before .before .before .before .before .before .before .before .before .cut .ensures .0) refl))
