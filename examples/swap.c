@@ -1,5 +1,5 @@
 /* "May I swap these two?" A load, a store and an addition, asked of two by two. */
-#include "vp1.h"
+#include "vp1_order.h"
 
 #include <stdio.h>
 

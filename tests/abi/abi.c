@@ -1,6 +1,7 @@
 /* The C interface against the second simulator: the same calls, on good and bad input, must leave the same answers, counts and bytes.
    Prints nothing and exits 0 when all is well; else says which call differed first and exits 1. */
 #include "vp1.h"
+#include "vp1_order.h"
 #include "vp1_second.h"
 
 #include <stdio.h>

@@ -16,9 +16,9 @@ use Rattle.words.specs.declared.Half.{Half}
 use Rattle.words.specs.declared.Half.the-variants.{Low, High}
 use Rattle.words.specs.declared.Increment.{Increment}
 use Rattle.words.specs.declared.Increment.the-variants.{Register, Immediate}
-use Rattle.words.specs.declared.Insn.the-variants as N
-use Rattle.words.specs.declared.Address.{Address}
-use Rattle.words.specs.declared.Address.the-variants.{Set, Add, Bitop, Aadd, Ld, St, Lda, Sta}
+use Rattle.words.specs.Insn as N
+use Rattle.words.specs.Address.{Address}
+use Rattle.words.specs.Address.{Set, Add, Bitop, Aadd, Ld, St, Lda, Sta}
 use Rattle.model.specs.State.{State, state, C, over}
 use Rattle.model.specs.Place.{Addr, xlat, put, halves, edit, upd, lo, hi}
 use Rattle.model.specs.Prog as P

@@ -1,4 +1,4 @@
 -- The tie between the formulas of specs/ and the model.
 pub mod Closed
-pub mod Increments
 pub mod Columns
+pub mod Moved

@@ -9,13 +9,13 @@ use Rattle.banks.specs.Line.{addresses, places, cellsOf}
 use Rattle.banks.specs.declared.Way.{Way}
 use Rattle.banks.specs.declared.Way.the-variants.{Horizontal, Vertical, Scalar}
 use Rattle.store.specs.Store.{loaded, stored, wordOf, bytesOf}
-use Rattle.regs.specs.Regs.{vregOf, withVreg, baseOf, withHalf, longAt, endAt}
+use Rattle.regs.specs.Regs.{vregOf, withVreg, baseOf, withHalf, plus, longAt, endAt}
 use Rattle.regs.specs.declared.Base.{Base}
 use Rattle.words.specs.declared.Half.the-variants.{Low}
 use Rattle.words.specs.declared.Increment.{Increment}
 use Rattle.words.specs.declared.Increment.the-variants.{Register, Immediate}
-use Rattle.words.specs.declared.Address.{Address}
-use Rattle.words.specs.declared.Address.the-variants.{Set, Add, Bitop, Aadd, Ld, St, Lda, Sta}
+use Rattle.words.specs.Address.{Address}
+use Rattle.words.specs.Address.{Set, Add, Bitop, Aadd, Ld, St, Lda, Sta}
 
 pub record Pieces : Type 0 where
   pub ds : List ℕ
@@ -29,10 +29,6 @@ five ds a r c v = record { ds = ds; a = a; r = r; c = c; v = v }
 
 abbrev pub baseIn : List ℕ → ℕ → Base
 baseIn a n = baseOf (getD a n 0)
-
--- addr moved on, modulo 65,536
-abbrev pub plus : ℕ → ℕ → ℕ
-plus x y = (x + y) % 65536
 
 unfoldable pub incOf : Increment → List ℕ → ℕ
 incOf (Register n) a = getD a n 0 % 65536

@@ -1,3 +1,3 @@
 -- What an address instruction makes of the five pieces that it may change.
 pub mod Effect
-pub mod Answered
+pub mod Result

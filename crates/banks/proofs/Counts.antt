@@ -5,13 +5,13 @@ use mathlib.Core.List.{List, map}
 use Prim.Native.Nat.{ℕ, zero, suc, _+_, _*_, _-_, _/_, _%_, _≤_, _<_}
 use native.Mathlib.Omega.{arith}
 use lib.Dec.{lit≤}
-use Rattle.banks.specs.Bank.{cellOf, bankOf, bankAt, at, placeOf, pairOf}
-use Rattle.banks.specs.Line.{line, strideOf, rowStart, wordStart, columnStart, has, distinct, addresses, places, cellsOf, startOf, stepOf}
+use Rattle.banks.specs.Bank.{bankOf, bankAt, at, pairOf}
+use Rattle.banks.specs.Line.{line, strideOf, rowStart, wordStart, columnStart, has, distinct, addresses, cellsOf, startOf, stepOf}
 use Rattle.banks.specs.declared.Way.{Way}
 use Rattle.banks.specs.declared.Way.the-variants.{Horizontal, Vertical, Scalar}
 use Rattle.banks.proofs.OneToOne.{cell-lt, one-to-one, at-coords}
 use Rattle.banks.proofs.Distinct.{line-distinct, line-has, two-and-two}
-use Rattle.banks.proofs.Banks.{row-bank, column-bank, column0-bank, column0-cell, column0-hilo}
+use Rattle.banks.proofs.Banks.{row-bank, column-bank, column0-bank, column0-cell}
 
 -- how many banks, (bank, cell) pairs and bytes a list of addresses has. As many pairs as banks: one cell of each bank
 pub record Enters (c : ℕ) (list : List ℕ) (banks cells bytes : ℕ) : Type 0 where
@@ -26,12 +26,12 @@ pair-bank c a b e = omega (arith, cell-lt a, cell-lt b)
 at-bank : (c a b : ℕ) → at c a ≡ at c b → bankOf c a ≡ bankOf c b
 at-bank c a b e = sym (at-coords c a .bank) ∙ ap bankAt e ∙ at-coords c b .bank
 
-slot : (x i j : ℕ) → i < 16 → j < 16 → (x + i) % 16 ≡ (x + j) % 16 → i ≡ j
+pub slot : (x i j : ℕ) → i < 16 → j < 16 → (x + i) % 16 ≡ (x + j) % 16 → i ≡ j
 slot x i j hi hj e = omega arith
 
 -- a line whose banks follow each other round the sixteen
 module _ (c b s n x : ℕ) (h : n ≤ 16) (ring : (i : ℕ) → i < n → bankOf c (b + i * s) ≡ (x + i) % 16) where
-  apart : (i j : ℕ) → i < n → j < n → bankOf c (b + i * s) ≡ bankOf c (b + j * s) → i ≡ j
+  pub apart : (i j : ℕ) → i < n → j < n → bankOf c (b + i * s) ≡ bankOf c (b + j * s) → i ≡ j
   apart i j hi hj e = slot x i j (omega arith) (omega arith) (sym (ring i hi) ∙ e ∙ ring j hj)
 
   ring-enters : Enters c (line b s n) n n n
@@ -74,7 +74,7 @@ module _ (c a : ℕ) where
   unfolding addresses startOf stepOf
   vertical-banks = ring-has (suc c) _ _ 16 _ (lit≤ tt) (λ i h. column-bank c a i) refl
 
--- ---- "for code 0 it enters 8 banks, one cell each, both halves"
+-- ---- "for code 0 it enters 8 banks, one cell each, both halves": 16 bytes of 8 cells; which they are, says OneCell.antt
 
 module _ (a : ℕ) where
   bank8 : ℕ → ℕ
@@ -84,7 +84,7 @@ module _ (a : ℕ) where
   pair8 k = bank8 k * 256 + (a % 8192 / 256 * 8 + k)
 
   -- the i-th address
-  abbrev pub nth : ℕ → ℕ
+  abbrev nth : ℕ → ℕ
   nth i = columnStart 0 a + i * strideOf 0
 
   nth-pair : (i : ℕ) → i < 16 → pairOf 0 (nth i) ≡ pair8 (i / 2)
@@ -118,19 +118,6 @@ module _ (a : ℕ) where
         of-bytes = line-distinct (at 0) (columnStart 0 a) (strideOf 0) 16 (λ i j hi hj e.
             let q = one-to-one 0 _ _ (nth-lt i hi) (nth-lt j hj) e in omega arith);
       }
-
-  -- each cell that it enters, it enters at both halves
-  pub vertical0-halves : (i h : ℕ) → i < 16 → h < 2
-      → has (placeOf (bankOf 0 (nth i)) (cellOf (nth i)) h) (places 0 (addresses Vertical 0 a)) ≡ true
-  unfolding places addresses startOf stepOf at
-  vertical0-halves i h l u =
-      let j = i / 2 * 2 + h in
-      let k : j < 16 = omega arith in
-      ap (λ (p : ℕ). has p (places 0 (addresses Vertical 0 a))) (other j k (omega arith) (omega arith))
-      ∙ line-has (at 0) (columnStart 0 a) (strideOf 0) 16 j k
-    where
-      other : (j : ℕ) → j < 16 → j / 2 ≡ i / 2 → j % 2 ≡ h → placeOf (bankOf 0 (nth i)) (cellOf (nth i)) h ≡ at 0 (nth j)
-      other j k e f = rw (column0-bank a i l, column0-cell a i l, column0-bank a j k, column0-cell a j k, column0-hilo a j, e, f)
 
 -- ---- the three ways and the four codes together
 

@@ -4,8 +4,8 @@ use mathlib.Core.List.{map}
 use Prim.Native.Nat.{ℕ, zero, suc, _+_, _*_, _<_}
 use native.Mathlib.Omega.{arith}
 use native.Mathlib.Nat.{add-zero, add-suc, suc-add, not-suc-le-zero, le-of-suc-le-suc}
-use lib.ListN.{length, getD, length-map}
-use Rattle.banks.specs.Line.{from, line, places, addresses, strideOf, rowStart, wordStart, columnStart, startOf, stepOf, countOf}
+use lib.ListN.{length, getD}
+use Rattle.banks.specs.Line.{from, strideOf, rowStart, wordStart, columnStart, startOf, stepOf, countOf}
 use Rattle.banks.specs.declared.Way.{Way}
 use Rattle.banks.specs.declared.Way.the-variants.{Horizontal, Vertical, Scalar}
 
@@ -17,10 +17,6 @@ pub getD-from : (f : ℕ → ℕ) (s n i : ℕ) → i < n → getD (map f (from 
 getD-from f s zero i h = absurd (not-suc-le-zero h)
 getD-from f s (suc n) zero h = ap f (sym (add-zero s))
 getD-from f s (suc n) (suc i) h = getD-from f (suc s) n i (le-of-suc-le-suc h) ∙ ap f (suc-add s i ∙ sym (add-suc s i))
-
-pub length-access : (w : Way) (c a : ℕ) → length (places c (addresses w c a)) ≡ countOf w
-unfolding places addresses line
-length-access w c a = simp length-map (length-from 0 (countOf w))
 
 column-lt : (c a i : ℕ) → i < 16 → columnStart c a + i * strideOf c < 8192
 unfolding columnStart strideOf

@@ -13,7 +13,7 @@ pub enum Way {
 }
 
 // What the low four bits of an address are moved on by.
-pub fn turn(code: usize, addr: usize) -> usize
+fn turn(code: usize, addr: usize) -> usize
     requires { ⌜ (code < 4) × (addr < 8192) ⌝ }
     ensures { λ r. ⌜ r ≡ turnOf code addr ⌝ }
 {

@@ -5,7 +5,7 @@ ghost use Prim.Native.Nat.{_<_};
 ghost use Rattle.bits.specs.Bitop.{bit, bitop};
 
 // Bit k of the table.
-pub fn bit_of(k: u8, op: u8) -> bool
+fn bit_of(k: u8, op: u8) -> bool
     requires { ⌜ k < 8 ⌝ }
     ensures { λ r. ⌜ r ≡ bit k op ⌝ }
 {

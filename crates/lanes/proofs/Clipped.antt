@@ -1,4 +1,4 @@
--- Clipped results: their flags from their bytes, and so from the list of the bytes.
+-- Clipped results: their flags from their bytes.
 use mathlib.Core.Path.{_≡_, refl, sym, _∙_}
 use mathlib.Core.Bool.{Bool, true, false, cond}
 use mathlib.Core.List.{List}
@@ -6,7 +6,7 @@ use Prim.Native.Nat.{ℕ, _-_, _%_, _^_, _≤_, _<_}
 use native.Mathlib.Omega.{arith}
 use lib.Dec.{eqb, ltb, leb}
 use lib.IntN.{ℤ, pos, negsuc}
-use lib.ListN.{getD, replicate, getD-replicate}
+use lib.ListN.{getD}
 use lib.Signed.{mag, ltZ}
 use mir.Syntax.{w8}
 use mir.Val.{Val}
@@ -16,12 +16,7 @@ use denote.Shadow.{shadow}
 use borrow.Author.Needs.{elem-fits}
 use borrow.Author.Tests.{ne-eqb, lt-ltb, le-ltb, lt-leb, le-leb, ltb-true, ltb-false}
 use Rattle.signed.specs.Signed.{isZero, low, clip}
-use Rattle.lanes.specs.declared.Calc.{Calc}
-use Rattle.lanes.specs.Lane.{Lane, clipped, arithLane}
-use Rattle.lanes.specs.Lanes.{listed, arithLanes}
-use Rattle.lanes.specs.Marks.{marked}
-use Rattle.lanes.proofs.Marking.{marks}
-use Rattle.lanes.proofs.Listed.{element, listed-is, with-signs}
+use Rattle.lanes.specs.Lane.{Lane, clipped}
 
 -- a small number's flags from its low byte
 pub zero-small : (v : ℤ) → mag v < 128 → isZero v ≡ eqb (low 8 v) 0
@@ -69,13 +64,13 @@ into-sign : (z : ℤ) → ltZ (into z) (pos 0) ≡ ltZ z (pos 0)
 into-sign (pos n) = rw (into-pos n) (le-ltb (cond (ltb 0x7f n) 0x7f n) 0 (omega arith) ∙ sym (le-ltb n 0 (omega arith)))
 into-sign (negsuc n) = rw (into-neg n) refl
 
-signed-zero : (z : ℤ) → eqb (clipped true z .byte) 0 ≡ clipped true z .zero
+pub signed-zero : (z : ℤ) → clipped true z .zero ≡ eqb (clipped true z .byte) 0
 unfolding clipped into
-signed-zero z = sym (zero-small (into z) (into-small z))
+signed-zero z = zero-small (into z) (into-small z)
 
-signed-sign : (z : ℤ) → leb 0x80 (clipped true z .byte) ≡ clipped true z .sign
+pub signed-sign : (z : ℤ) → clipped true z .sign ≡ leb 0x80 (clipped true z .byte)
 unfolding clipped into
-signed-sign z = sign-small (into z) (into-small z) ∙ into-sign z
+signed-sign z = sym (sign-small (into z) (into-small z) ∙ into-sign z)
 
 -- clipped as an unsigned result: the byte and whether it was moved
 abbrev pub moved : Bool → ℕ → ℕ → Lane
@@ -104,26 +99,3 @@ unsigned-zero (pos n) = pick (ltb n 256) refl
 -- what owning sixteen bytes tells
 pub bytes-fit : (l : List ℕ) (us : List Val) → shadow (each ℕ (UInt w8 .own) l us) → (i : ℕ) → getD l i 0 < 256
 bytes-fit l us p i = elem-fits w8 w8 l us i p tt .fits
-
--- the sixteen bytes of an operation
-module _ (op : Calc) (a b bs : List ℕ) where
-  pub signed-marks : bs ≡ listed 16 (λ i. arithLane op true (getD a i 0) (getD b i 0) .byte)
-      → marked (record { bytes = bs; tested = bs; tops = bs }) ≡ arithLanes op true a b
-  unfolding arithLanes arithLane
-  signed-marks e =
-      marks _ _ e (λ i h. rw (element _ e i h) (signed-zero _)) (λ i h. rw (element _ e i h) (signed-sign _))
-
-  -- where a byte each tells whether the result was moved
-  pub moved-marks : (ts : List ℕ) → bs ≡ listed 16 (λ i. arithLane op false (getD a i 0) (getD b i 0) .byte)
-      → ts ≡ listed 16 (λ i. cond (arithLane op false (getD a i 0) (getD b i 0) .sign) 255 0)
-      → marked (record { bytes = bs; tested = bs; tops = ts }) ≡ arithLanes op false a b
-  unfolding arithLanes arithLane
-  moved-marks ts e t = with-signs _ (λ i. unsigned-zero _) e t
-
-  -- where it never is
-  pub quiet-marks : bs ≡ listed 16 (λ i. arithLane op false (getD a i 0) (getD b i 0) .byte)
-      → ((i : ℕ) → arithLane op false (getD a i 0) (getD b i 0) .sign ≡ false)
-      → marked (record { bytes = bs; tested = bs; tops = replicate 16 0 }) ≡ arithLanes op false a b
-  quiet-marks e s =
-      moved-marks (replicate 16 0) e
-      (listed-is _ (replicate 16 0) refl (λ i h. rw (getD-replicate {A = ℕ} 16 i 0 0 h, s i)))

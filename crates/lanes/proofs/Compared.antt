@@ -15,9 +15,9 @@ use Rattle.lanes.specs.declared.Flags.{Flags}
 use Rattle.lanes.specs.Lane.{Lane, apart, cmpadLane}
 use Rattle.lanes.specs.Lanes.{listed, flags, cmpadFlags}
 use Rattle.lanes.specs.Marks.{zerosOf, topsOf}
-use Rattle.lanes.proofs.Marking.{flags-same}
-use Rattle.lanes.proofs.Weights.{tops-lt}
-use Rattle.lanes.proofs.Listed.{element, full}
+use Rattle.lanes.proofs.Listed.{element}
+use Rattle.lanes.proofs.Packing.{flags-same, tops-lt}
+use Rattle.lanes.proofs.Marking.{full}
 
 flags-none : (f : ℕ → Bool) → 0 ≡ flags 0 f
 unfolding flags

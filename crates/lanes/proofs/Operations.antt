@@ -13,7 +13,7 @@ use borrow.Author.Tests.{lt-ltb, le-ltb, ltb-true, ltb-false}
 use Rattle.signed.specs.Signed.{sext, widen, low, clip}
 use Rattle.signed.proofs.Z.{passed, mag-sext, add-fits, sub-fits, neg-back, pos-down, pos-up}
 use Rattle.lanes.specs.declared.Calc.the-variants.{Min, Max, Abs, Add, Sub}
-use Rattle.lanes.specs.Lane.{Lane, clipped, result, arithLane}
+use Rattle.lanes.specs.Lane.{clipped, result, arithLane}
 use Rattle.lanes.proofs.Biased.{by-half, sext-low, sext-high, sext-off, ltZ-off, size}
 use Rattle.lanes.proofs.Clipped.{moved, within, above, below}
 
@@ -115,15 +115,15 @@ add-unsigned x y h k = pick (ltb (x + y) 256) refl
         let l : 256 ≤ x + y = ltb-false (x + y) 256 e in
         rw (lt-ltb ((x + y) % 2 ^ 8) x (omega arith)) (above (x + y) l)
 
-pub sub-unsigned : (x y n : ℕ) → x < 256 → y < 256 → n < 256 → (n + y) % 2 ^ 8 ≡ x → arithLane Sub false x y ≡ moved (ltb x y) 0 n
+pub sub-unsigned : (x y n : ℕ) → x < 256 → y < 256 → n < 256 → (n + y) % 2 ^ 8 ≡ x → arithLane Sub false x y ≡ moved (ltb x n) 0 n
 unfolding arithLane result widen
-sub-unsigned x y n h k m e = pick (ltb x y) refl
+sub-unsigned x y n h k m e = pick (ltb x n) refl
   where
-    pick : (t : Bool) → ltb x y ≡ t → clipped false (pos x -ℤ pos y) ≡ moved t 0 n
-    pick true l = rw (pos-down x y (ltb-true x y l)) (below (y - suc x) n)
+    pick : (t : Bool) → ltb x n ≡ t → clipped false (pos x -ℤ pos y) ≡ moved t 0 n
+    pick true l =
+        let u : x < n = ltb-true x n l in
+        let d : x < y = omega arith in rw (pos-down x y d) (below (y - suc x) n)
     pick false l =
-        let u : y ≤ x = ltb-false x y l in
-        let s : x - y ≡ n = omega arith in rw (pos-up x y u, s) (within n m)
-
-pub sub-below : (x y : ℕ) → x < 256 → y < 256 → arithLane Sub false x y .sign ≡ ltb x y
-sub-below x y h k = ap (λ (l : Lane). l .sign) (sub-unsigned x y ((x + (256 - y)) % 2 ^ 8) h k (omega arith) (omega arith))
+        let u : n ≤ x = ltb-false x n l in
+        let d : y ≤ x = omega arith in
+        let s : x - y ≡ n = omega arith in rw (pos-up x y d, s) (within n m)

@@ -66,7 +66,7 @@ cmpadFlags op input a other b =
     let f : ℕ → Lane = λ i. cmpadLane op (input / 2 ^ i % 2) (getD a i 0) (getD other i 0) (getD b i 0) in
     record { signs = flags 16 (λ i. f i .sign); zeros = flags 16 (λ i. f i .zero) }
 
--- lo: bits 0-3 are the component selector, bit 4 is the source selector; hi: bits 4-7 and bit 0
+-- vswz; lo: bits 0-3 are the component selector, bit 4 is the source selector; hi: bits 4-7 and bit 0
 abbrev pub component : Bool → ℕ → ℕ
 component hi s = cond hi (s / 16 % 16) (s % 16)
 

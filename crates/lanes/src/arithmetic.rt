@@ -4,18 +4,18 @@ ghost use mathlib.Core.Bool.{true, false, cond};
 ghost use lib.ListN.{getD, replicate};
 ghost use Rattle.lanes.specs.declared.Calc.the-variants.{Min, Max, Abs, Neg, Add, Sub};
 ghost use Rattle.lanes.specs.Lane.{arithLane};
-ghost use Rattle.lanes.specs.Lanes.{listed, arithLanes};
-ghost use Rattle.lanes.specs.Marks.{marked};
+ghost use Rattle.lanes.specs.Lanes.{listed};
+ghost use Rattle.lanes.specs.Marks.{arithMarks};
 use crate::Marks;
 use crate::scalar;
 
 // Signed: the sign flag is bit 7 of the clipped byte.
-pub fn min_signed(a: [u8; 16], b: [u8; 16]) -> Marks
-    ensures { λ r. ⌜ marked r ≡ arithLanes Min true a b ⌝ }
+pub fn vmin_s(a: [u8; 16], b: [u8; 16]) -> Marks
+    ensures { λ r. ⌜ r ≡ arithMarks Min true a b ⌝ }
 {
     let mut x = [0u8; 16];
     for i in 0..16 {
-        x[i] = scalar::min_signed(a[i], b[i]);
+        x[i] = scalar::vmin_s(a[i], b[i]);
     }
     Marks {
         bytes: x,
@@ -24,12 +24,12 @@ pub fn min_signed(a: [u8; 16], b: [u8; 16]) -> Marks
     }
 }
 
-pub fn max_signed(a: [u8; 16], b: [u8; 16]) -> Marks
-    ensures { λ r. ⌜ marked r ≡ arithLanes Max true a b ⌝ }
+pub fn vmax_s(a: [u8; 16], b: [u8; 16]) -> Marks
+    ensures { λ r. ⌜ r ≡ arithMarks Max true a b ⌝ }
 {
     let mut x = [0u8; 16];
     for i in 0..16 {
-        x[i] = scalar::max_signed(a[i], b[i]);
+        x[i] = scalar::vmax_s(a[i], b[i]);
     }
     Marks {
         bytes: x,
@@ -38,12 +38,12 @@ pub fn max_signed(a: [u8; 16], b: [u8; 16]) -> Marks
     }
 }
 
-pub fn add_signed(a: [u8; 16], b: [u8; 16]) -> Marks
-    ensures { λ r. ⌜ marked r ≡ arithLanes Add true a b ⌝ }
+pub fn vadd_s(a: [u8; 16], b: [u8; 16]) -> Marks
+    ensures { λ r. ⌜ r ≡ arithMarks Add true a b ⌝ }
 {
     let mut x = [0u8; 16];
     for i in 0..16 {
-        x[i] = scalar::add_signed(a[i], b[i]);
+        x[i] = scalar::vadd_s(a[i], b[i]);
     }
     Marks {
         bytes: x,
@@ -52,12 +52,12 @@ pub fn add_signed(a: [u8; 16], b: [u8; 16]) -> Marks
     }
 }
 
-pub fn sub_signed(a: [u8; 16], b: [u8; 16]) -> Marks
-    ensures { λ r. ⌜ marked r ≡ arithLanes Sub true a b ⌝ }
+pub fn vsub_s(a: [u8; 16], b: [u8; 16]) -> Marks
+    ensures { λ r. ⌜ r ≡ arithMarks Sub true a b ⌝ }
 {
     let mut x = [0u8; 16];
     for i in 0..16 {
-        x[i] = scalar::sub_signed(a[i], b[i]);
+        x[i] = scalar::vsub_s(a[i], b[i]);
     }
     Marks {
         bytes: x,
@@ -66,12 +66,12 @@ pub fn sub_signed(a: [u8; 16], b: [u8; 16]) -> Marks
     }
 }
 
-pub fn neg_signed(a: [u8; 16]) -> Marks
-    ensures { λ r. ⌜ marked r ≡ arithLanes Neg true a (replicate 16 0) ⌝ }
+pub fn vneg_s(a: [u8; 16]) -> Marks
+    ensures { λ r. ⌜ r ≡ arithMarks Neg true a (replicate 16 0) ⌝ }
 {
     let mut x = [0u8; 16];
     for i in 0..16 {
-        x[i] = scalar::neg_signed(a[i]);
+        x[i] = scalar::vneg_s(a[i]);
     }
     Marks {
         bytes: x,
@@ -80,12 +80,12 @@ pub fn neg_signed(a: [u8; 16]) -> Marks
     }
 }
 
-pub fn abs_signed(a: [u8; 16]) -> Marks
-    ensures { λ r. ⌜ marked r ≡ arithLanes Abs true a (replicate 16 0) ⌝ }
+pub fn vabs_s(a: [u8; 16]) -> Marks
+    ensures { λ r. ⌜ r ≡ arithMarks Abs true a (replicate 16 0) ⌝ }
 {
     let mut x = [0u8; 16];
     for i in 0..16 {
-        x[i] = scalar::abs_signed(a[i]);
+        x[i] = scalar::vabs_s(a[i]);
     }
     Marks {
         bytes: x,
@@ -95,12 +95,12 @@ pub fn abs_signed(a: [u8; 16]) -> Marks
 }
 
 // Unsigned: the sign flag tells that the result was clipped, which a minimum, a maximum and a magnitude never are.
-pub fn min_unsigned(a: [u8; 16], b: [u8; 16]) -> Marks
-    ensures { λ r. ⌜ marked r ≡ arithLanes Min false a b ⌝ }
+pub fn vmin_u(a: [u8; 16], b: [u8; 16]) -> Marks
+    ensures { λ r. ⌜ r ≡ arithMarks Min false a b ⌝ }
 {
     let mut x = [0u8; 16];
     for i in 0..16 {
-        x[i] = scalar::min_unsigned(a[i], b[i]);
+        x[i] = scalar::vmin_u(a[i], b[i]);
     }
     Marks {
         bytes: x,
@@ -109,12 +109,12 @@ pub fn min_unsigned(a: [u8; 16], b: [u8; 16]) -> Marks
     }
 }
 
-pub fn max_unsigned(a: [u8; 16], b: [u8; 16]) -> Marks
-    ensures { λ r. ⌜ marked r ≡ arithLanes Max false a b ⌝ }
+pub fn vmax_u(a: [u8; 16], b: [u8; 16]) -> Marks
+    ensures { λ r. ⌜ r ≡ arithMarks Max false a b ⌝ }
 {
     let mut x = [0u8; 16];
     for i in 0..16 {
-        x[i] = scalar::max_unsigned(a[i], b[i]);
+        x[i] = scalar::vmax_u(a[i], b[i]);
     }
     Marks {
         bytes: x,
@@ -123,8 +123,8 @@ pub fn max_unsigned(a: [u8; 16], b: [u8; 16]) -> Marks
     }
 }
 
-pub fn abs_unsigned(a: [u8; 16]) -> Marks
-    ensures { λ r. ⌜ marked r ≡ arithLanes Abs false a (replicate 16 0) ⌝ }
+pub fn vabs_u(a: [u8; 16]) -> Marks
+    ensures { λ r. ⌜ r ≡ arithMarks Abs false a (replicate 16 0) ⌝ }
 {
     Marks {
         bytes: a,
@@ -133,23 +133,23 @@ pub fn abs_unsigned(a: [u8; 16]) -> Marks
     }
 }
 
-fn add_clipped(a: [u8; 16], b: [u8; 16]) -> [u8; 16]
+fn vadd_u_clipped(a: [u8; 16], b: [u8; 16]) -> [u8; 16]
     ensures { λ r. ⌜ r ≡ listed 16 (λ i. cond (arithLane Add false (getD a i 0) (getD b i 0) .sign) 255 0) ⌝ }
 {
     let mut x = [0u8; 16];
     for i in 0..16 {
-        x[i] = scalar::add_clipped(a[i], b[i]);
+        x[i] = scalar::vadd_u_clipped(a[i], b[i]);
     }
     x
 }
 
-pub fn add_unsigned(a: [u8; 16], b: [u8; 16]) -> Marks
-    ensures { λ r. ⌜ marked r ≡ arithLanes Add false a b ⌝ }
+pub fn vadd_u(a: [u8; 16], b: [u8; 16]) -> Marks
+    ensures { λ r. ⌜ r ≡ arithMarks Add false a b ⌝ }
 {
-    let tops = add_clipped(a, b);
+    let tops = vadd_u_clipped(a, b);
     let mut x = [0u8; 16];
     for i in 0..16 {
-        x[i] = scalar::add_unsigned(a[i], b[i]);
+        x[i] = scalar::vadd_u(a[i], b[i]);
     }
     Marks {
         bytes: x,
@@ -158,23 +158,23 @@ pub fn add_unsigned(a: [u8; 16], b: [u8; 16]) -> Marks
     }
 }
 
-fn sub_clipped(a: [u8; 16], b: [u8; 16]) -> [u8; 16]
+fn vsub_u_clipped(a: [u8; 16], b: [u8; 16]) -> [u8; 16]
     ensures { λ r. ⌜ r ≡ listed 16 (λ i. cond (arithLane Sub false (getD a i 0) (getD b i 0) .sign) 255 0) ⌝ }
 {
     let mut x = [0u8; 16];
     for i in 0..16 {
-        x[i] = scalar::sub_clipped(a[i], b[i]);
+        x[i] = scalar::vsub_u_clipped(a[i], b[i]);
     }
     x
 }
 
-pub fn sub_unsigned(a: [u8; 16], b: [u8; 16]) -> Marks
-    ensures { λ r. ⌜ marked r ≡ arithLanes Sub false a b ⌝ }
+pub fn vsub_u(a: [u8; 16], b: [u8; 16]) -> Marks
+    ensures { λ r. ⌜ r ≡ arithMarks Sub false a b ⌝ }
 {
-    let tops = sub_clipped(a, b);
+    let tops = vsub_u_clipped(a, b);
     let mut x = [0u8; 16];
     for i in 0..16 {
-        x[i] = scalar::sub_unsigned(a[i], b[i]);
+        x[i] = scalar::vsub_u(a[i], b[i]);
     }
     Marks {
         bytes: x,

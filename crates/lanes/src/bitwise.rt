@@ -1,13 +1,12 @@
 // Moves of sixteen components, and bit operations, which are moves of what they make.
 ghost use mathlib.Core.Path.{_≡_};
-ghost use Rattle.lanes.specs.Lanes.{bitopLanes, logicLanes, movLanes, movImmLanes};
-ghost use Rattle.lanes.specs.Marks.{marked};
+ghost use Rattle.lanes.specs.Marks.{bitopMarks, logicMarks, movMarks, movImmMarks};
 ghost use Rattle.lanes.specs.declared.Logic.the-variants.{And, Xor, Or};
 use crate::Marks;
 
 // The sign flags are cleared, the zero flags test the bytes.
 pub fn mov(a: [u8; 16]) -> Marks
-    ensures { λ r. ⌜ marked r ≡ movLanes a ⌝ }
+    ensures { λ r. ⌜ r ≡ movMarks a ⌝ }
 {
     let tops = [0u8; 16];
     Marks {
@@ -17,8 +16,8 @@ pub fn mov(a: [u8; 16]) -> Marks
     }
 }
 
-pub fn bitop(op: u8, a: [u8; 16], b: [u8; 16]) -> Marks
-    ensures { λ r. ⌜ marked r ≡ bitopLanes op a b ⌝ }
+pub fn vbitop(op: u8, a: [u8; 16], b: [u8; 16]) -> Marks
+    ensures { λ r. ⌜ r ≡ bitopMarks op a b ⌝ }
 {
     let mut x = [0u8; 16];
     for i in 0..16 {
@@ -27,8 +26,8 @@ pub fn bitop(op: u8, a: [u8; 16], b: [u8; 16]) -> Marks
     mov(x)
 }
 
-pub fn ands(a: [u8; 16], byte: u8) -> Marks
-    ensures { λ r. ⌜ marked r ≡ logicLanes And a byte ⌝ }
+pub fn vand(a: [u8; 16], byte: u8) -> Marks
+    ensures { λ r. ⌜ r ≡ logicMarks And a byte ⌝ }
 {
     let mut x = [0u8; 16];
     for i in 0..16 {
@@ -37,8 +36,8 @@ pub fn ands(a: [u8; 16], byte: u8) -> Marks
     mov(x)
 }
 
-pub fn xors(a: [u8; 16], byte: u8) -> Marks
-    ensures { λ r. ⌜ marked r ≡ logicLanes Xor a byte ⌝ }
+pub fn vxor(a: [u8; 16], byte: u8) -> Marks
+    ensures { λ r. ⌜ r ≡ logicMarks Xor a byte ⌝ }
 {
     let mut x = [0u8; 16];
     for i in 0..16 {
@@ -47,8 +46,8 @@ pub fn xors(a: [u8; 16], byte: u8) -> Marks
     mov(x)
 }
 
-pub fn ors(a: [u8; 16], byte: u8) -> Marks
-    ensures { λ r. ⌜ marked r ≡ logicLanes Or a byte ⌝ }
+pub fn vor(a: [u8; 16], byte: u8) -> Marks
+    ensures { λ r. ⌜ r ≡ logicMarks Or a byte ⌝ }
 {
     let mut x = [0u8; 16];
     for i in 0..16 {
@@ -58,8 +57,8 @@ pub fn ors(a: [u8; 16], byte: u8) -> Marks
 }
 
 // The sign flag is bit 7 of the value.
-pub fn mov_imm(byte: u8) -> Marks
-    ensures { λ r. ⌜ marked r ≡ movImmLanes byte ⌝ }
+pub fn vmov(byte: u8) -> Marks
+    ensures { λ r. ⌜ r ≡ movImmMarks byte ⌝ }
 {
     let bytes = [byte; 16];
     Marks {

@@ -5,8 +5,8 @@ ghost use lib.IntN.{natAbs};
 ghost use lib.ListN.{getD};
 ghost use Rattle.signed.specs.Signed.{sext};
 ghost use Rattle.lanes.specs.Lane.{clipLane, minAbsLane};
-ghost use Rattle.lanes.specs.Lanes.{listed, clipLanes, minAbsLanes};
-ghost use Rattle.lanes.specs.Marks.{marked};
+ghost use Rattle.lanes.specs.Lanes.{listed};
+ghost use Rattle.lanes.specs.Marks.{clipMarks, minAbsMarks};
 use crate::Marks;
 use crate::bitwise;
 use crate::select::either;
@@ -53,8 +53,8 @@ fn signs(a: [u8; 16], b: [u8; 16], c: [u8; 16], x: [u8; 16]) -> [u8; 16]
     s
 }
 
-pub fn clip(a: [u8; 16], b: [u8; 16], c: [u8; 16]) -> Marks
-    ensures { λ r. ⌜ marked r ≡ clipLanes a b c ⌝ }
+pub fn vclip(a: [u8; 16], b: [u8; 16], c: [u8; 16]) -> Marks
+    ensures { λ r. ⌜ r ≡ clipMarks a b c ⌝ }
 {
     let x = bytes(a, b, c);
     let tops = signs(a, b, c, x);
@@ -80,8 +80,8 @@ fn lesser(x: u8, y: u8) -> u8
     either(t < 127, t, 127)
 }
 
-pub fn min_abs(a: [u8; 16], b: [u8; 16]) -> Marks
-    ensures { λ r. ⌜ marked r ≡ minAbsLanes a b ⌝ }
+pub fn vminabs(a: [u8; 16], b: [u8; 16]) -> Marks
+    ensures { λ r. ⌜ r ≡ minAbsMarks a b ⌝ }
 {
     let mut x = [0u8; 16];
     for i in 0..16 {

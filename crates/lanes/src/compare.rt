@@ -50,11 +50,11 @@ fn differ(d: [u8; 16], other: [u8; 16]) -> [u8; 16]
 }
 
 // One bit operation on the packed flags is that of all sixteen components.
-pub fn cmpad(op: u8, input: u16, a: [u8; 16], other: [u8; 16], b: [u8; 16]) -> Flags
+pub fn vcmpad(op: u8, input: u16, a: [u8; 16], other: [u8; 16], b: [u8; 16]) -> Flags
     ensures { λ r. ⌜ r ≡ cmpadFlags op input a other b ⌝ }
 {
     let d = distances(b, a);
-    let w = packed::weighed(differ(d, other), less(d, other), packed::weights());
+    let w = packed::flags(differ(d, other), less(d, other));
     let signs = bits::bitop32(op, input as u32, w % 65536) % 65536;
     Flags {
         signs: signs as u16,

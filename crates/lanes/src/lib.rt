@@ -6,13 +6,13 @@ ghost use lib.ListN.{replicate};
 ghost use Rattle.lanes.specs.Lanes.{flagBytes};
 
 pub mod arithmetic; // arithmetic.rt: vmin, vmax, vabs, vneg, vadd and vsub
-pub mod bitwise; // bitwise.rt: bit operations and moves
+pub mod bitwise; // bitwise.rt: mov, vmov, vbitop, vand, vxor and vor
 pub mod clamp; // clamp.rt: vclip and vminabs
 pub mod compare; // compare.rt: vcmpad
 pub mod nine; // nine.rt: vadd9
 pub mod packed; // packed.rt: the flags of sixteen components, packed into one word
 mod scalar; // scalar.rt: the byte that an arithmetic operation makes of one component
-pub mod select; // select.rt: one of two bytes, and the words of two sources
+mod select; // select.rt: one of two bytes, and the words of two sources
 pub mod shifts; // shifts.rt: vsar and vshr
 pub mod shuffle; // shuffle.rt: vswz
 
@@ -45,7 +45,8 @@ pub enum Logic {
     Or,
 }
 
-pub fn flag_bytes(w0: u32, w1: u32, w2: u32, w3: u32) -> [u8; 16]
+// mov from $vc.
+pub fn mov_vc(w0: u32, w1: u32, w2: u32, w3: u32) -> [u8; 16]
     ensures { λ r. ⌜ r ≡ flagBytes (w0 ∷ w1 ∷ w2 ∷ w3 ∷ []) ⌝ }
 {
     [

@@ -2,8 +2,7 @@
 ghost use mathlib.Core.Path.{_≡_};
 ghost use mathlib.Core.Bool.{cond};
 ghost use Rattle.lanes.specs.Lane.{add9Lane};
-ghost use Rattle.lanes.specs.Lanes.{add9Lanes};
-ghost use Rattle.lanes.specs.Marks.{marked};
+ghost use Rattle.lanes.specs.Marks.{add9Marks};
 use crate::Marks;
 use crate::select;
 
@@ -23,8 +22,8 @@ fn sum(x: u8, w: u16) -> Clipped
     Clipped { byte, top }
 }
 
-pub fn add9(a: [u8; 16], b: [u8; 16], c: [u8; 16]) -> Marks
-    ensures { λ r. ⌜ marked r ≡ add9Lanes a b c ⌝ }
+pub fn vadd9(a: [u8; 16], b: [u8; 16], c: [u8; 16]) -> Marks
+    ensures { λ r. ⌜ r ≡ add9Marks a b c ⌝ }
 {
     let w = select::words(b, c);
     let mut x = [0u8; 16];

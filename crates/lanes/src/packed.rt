@@ -2,75 +2,89 @@
 ghost use mathlib.Core.Path.{_≡_};
 ghost use mathlib.Core.Bool.{cond};
 ghost use Prim.Native.Nat.{_+_, _*_, _<_};
-ghost use lib.Dec.{eqb, leb};
-ghost use lib.ListN.{getD};
-ghost use Rattle.lanes.specs.Lanes.{listed};
-ghost use Rattle.lanes.specs.Marks.{zerosOf, topsOf, summed, weights};
-use crate::select;
+ghost use Rattle.lanes.specs.Marks.{zerosOf, topsOf, two, four, eight};
 
-fn wide(x: u8) -> u32
-    ensures { λ r. ⌜ (r ≡ x) × (r < 256) ⌝ }
+fn bit(t: bool) -> u16
+    ensures { λ r. ⌜ (r ≡ cond t 1 0) × (r < 2) ⌝ }
 {
-    x as u32
+    if t { 1 } else { 0 }
 }
 
-// Written out: the compiler adds eight bytes by one instruction.
-fn sum(m: [u8; 16]) -> u32
-    ensures { λ r. ⌜ r ≡ summed m ⌝ }
+fn two(a: bool, b: bool) -> u16
+    ensures { λ r. ⌜ (r ≡ two a b) × (r < 4) ⌝ }
 {
-    wide(m[0])
-        + wide(m[1])
-        + wide(m[2])
-        + wide(m[3])
-        + wide(m[4])
-        + wide(m[5])
-        + wide(m[6])
-        + wide(m[7])
-        + (wide(m[8])
-            + wide(m[9])
-            + wide(m[10])
-            + wide(m[11])
-            + wide(m[12])
-            + wide(m[13])
-            + wide(m[14])
-            + wide(m[15]))
-            * 256
+    bit(a) + bit(b) * 2
 }
 
-fn zero_bits(x: [u8; 16], bits: [u8; 16]) -> [u8; 16]
-    ensures { λ r. ⌜ r ≡ listed 16 (λ i. cond (eqb (getD x i 0) 0) (getD bits i 0) 0) ⌝ }
+fn four(a: bool, b: bool, c: bool, d: bool) -> u16
+    ensures { λ r. ⌜ (r ≡ four a b c d) × (r < 16) ⌝ }
 {
-    let mut m = [0u8; 16];
-    for i in 0..16 {
-        m[i] = select::either(x[i] == 0, bits[i], 0);
-    }
-    m
+    two(a, b) + two(c, d) * 4
 }
 
-fn top_bits(x: [u8; 16], bits: [u8; 16]) -> [u8; 16]
-    ensures { λ r. ⌜ r ≡ listed 16 (λ i. cond (leb 0x80 (getD x i 0)) (getD bits i 0) 0) ⌝ }
+// A balanced sum, in u16: where the bits are tests of sixteen bytes the compiler takes them all by one instruction.
+fn eight(a: bool, b: bool, c: bool, d: bool, e: bool, f: bool, g: bool, h: bool) -> u16
+    ensures { λ r. ⌜ (r ≡ eight a b c d e f g h) × (r < 256) ⌝ }
 {
-    let mut m = [0u8; 16];
-    for i in 0..16 {
-        m[i] = select::either(0x80 <= x[i], bits[i], 0);
-    }
-    m
+    four(a, b, c, d) + four(e, f, g, h) * 16
 }
 
-pub fn weights() -> [u8; 16]
-    ensures { λ r. ⌜ r ≡ weights ⌝ }
+fn zeros(t: [u8; 16]) -> u16
+    ensures { λ r. ⌜ r ≡ zerosOf t ⌝ }
 {
-    [1, 2, 4, 8, 16, 32, 64, 128, 1, 2, 4, 8, 16, 32, 64, 128]
+    let low = eight(
+        t[0] == 0,
+        t[1] == 0,
+        t[2] == 0,
+        t[3] == 0,
+        t[4] == 0,
+        t[5] == 0,
+        t[6] == 0,
+        t[7] == 0,
+    );
+    let high = eight(
+        t[8] == 0,
+        t[9] == 0,
+        t[10] == 0,
+        t[11] == 0,
+        t[12] == 0,
+        t[13] == 0,
+        t[14] == 0,
+        t[15] == 0,
+    );
+    low + high * 256
 }
 
-// The zero flags of the bytes `tested` in the high half, and bit 7 of each of `tops` in the low half. The caller hands over `weights()`, so that
-// the compiler does not know them here: then it adds eight bytes by one instruction. It does know them where it copies this function into its
-// one caller, so a program that is to be fast calls this at two places or more.
-pub fn weighed(tested: [u8; 16], tops: [u8; 16], bits: [u8; 16]) -> u32
-    requires { ⌜ bits ≡ weights ⌝ }
+// The bytes with bit 7 clear are gathered, and turned over at the end: of `128 <= t[0]` the compiler does not make that instruction.
+fn signs(t: [u8; 16]) -> u16
+    ensures { λ r. ⌜ r ≡ topsOf t ⌝ }
+{
+    let low = eight(
+        t[0] < 128,
+        t[1] < 128,
+        t[2] < 128,
+        t[3] < 128,
+        t[4] < 128,
+        t[5] < 128,
+        t[6] < 128,
+        t[7] < 128,
+    );
+    let high = eight(
+        t[8] < 128,
+        t[9] < 128,
+        t[10] < 128,
+        t[11] < 128,
+        t[12] < 128,
+        t[13] < 128,
+        t[14] < 128,
+        t[15] < 128,
+    );
+    0xffff - (low + high * 256)
+}
+
+// The zero flags of the bytes `tested` in the high half, and bit 7 of each of `tops` in the low half: a word of $vc.
+pub fn flags(tested: [u8; 16], tops: [u8; 16]) -> u32
     ensures { λ r. ⌜ r ≡ zerosOf tested * 65536 + topsOf tops ⌝ }
 {
-    let zeros = sum(zero_bits(tested, bits));
-    let signs = sum(top_bits(tops, bits));
-    zeros * 65536 + signs
+    zeros(tested) as u32 * 65536 + signs(tops) as u32
 }

@@ -6,19 +6,19 @@ ghost use Rattle.lanes.specs.Lane.{arithLane};
 use crate::select;
 
 // Bit 7 turned over orders signed bytes as unsigned ones.
-pub fn min_signed(x: u8, y: u8) -> u8
+pub fn vmin_s(x: u8, y: u8) -> u8
     ensures { λ r. ⌜ r ≡ arithLane Min true x y .byte ⌝ }
 {
     select::either((x ^ 128) < (y ^ 128), x, y)
 }
 
-pub fn max_signed(x: u8, y: u8) -> u8
+pub fn vmax_s(x: u8, y: u8) -> u8
     ensures { λ r. ⌜ r ≡ arithLane Max true x y .byte ⌝ }
 {
     select::either((x ^ 128) < (y ^ 128), y, x)
 }
 
-pub fn add_signed(x: u8, y: u8) -> u8
+pub fn vadd_s(x: u8, y: u8) -> u8
     ensures { λ r. ⌜ r ≡ arithLane Add true x y .byte ⌝ }
 {
     signed::low8(signed::clip(
@@ -28,7 +28,7 @@ pub fn add_signed(x: u8, y: u8) -> u8
     ))
 }
 
-pub fn sub_signed(x: u8, y: u8) -> u8
+pub fn vsub_s(x: u8, y: u8) -> u8
     ensures { λ r. ⌜ r ≡ arithLane Sub true x y .byte ⌝ }
 {
     signed::low8(signed::clip(
@@ -38,53 +38,55 @@ pub fn sub_signed(x: u8, y: u8) -> u8
     ))
 }
 
-pub fn neg_signed(x: u8) -> u8
+pub fn vneg_s(x: u8) -> u8
     ensures { λ r. ⌜ r ≡ arithLane Neg true x 0 .byte ⌝ }
 {
     signed::low8(signed::clip(-0x80, 0x7f, -signed::sext(x as u32, 7)))
 }
 
-pub fn abs_signed(x: u8) -> u8
+pub fn vabs_s(x: u8) -> u8
     ensures { λ r. ⌜ r ≡ arithLane Abs true x 0 .byte ⌝ }
 {
     let z = select::either(x < 128, x, std::num::wrapping_sub_u8(0, x));
     select::either(z < 127, z, 127)
 }
 
-pub fn min_unsigned(x: u8, y: u8) -> u8
+pub fn vmin_u(x: u8, y: u8) -> u8
     ensures { λ r. ⌜ r ≡ arithLane Min false x y .byte ⌝ }
 {
     select::either(x < y, x, y)
 }
 
-pub fn max_unsigned(x: u8, y: u8) -> u8
+pub fn vmax_u(x: u8, y: u8) -> u8
     ensures { λ r. ⌜ r ≡ arithLane Max false x y .byte ⌝ }
 {
     select::either(x < y, y, x)
 }
 
 // The sum went past 255 where it comes out below x.
-pub fn add_unsigned(x: u8, y: u8) -> u8
+pub fn vadd_u(x: u8, y: u8) -> u8
     ensures { λ r. ⌜ r ≡ arithLane Add false x y .byte ⌝ }
 {
     let t = std::num::wrapping_add_u8(x, y);
     select::either(t < x, 255, t)
 }
 
-pub fn add_clipped(x: u8, y: u8) -> u8
+pub fn vadd_u_clipped(x: u8, y: u8) -> u8
     ensures { λ r. ⌜ r ≡ cond (arithLane Add false x y .sign) 255 0 ⌝ }
 {
     select::either(std::num::wrapping_add_u8(x, y) < x, 255, 0)
 }
 
-pub fn sub_unsigned(x: u8, y: u8) -> u8
+// The difference went below 0 where it comes out above x.
+pub fn vsub_u(x: u8, y: u8) -> u8
     ensures { λ r. ⌜ r ≡ arithLane Sub false x y .byte ⌝ }
 {
-    select::either(x < y, 0, std::num::wrapping_sub_u8(x, y))
+    let t = std::num::wrapping_sub_u8(x, y);
+    select::either(x < t, 0, t)
 }
 
-pub fn sub_clipped(x: u8, y: u8) -> u8
+pub fn vsub_u_clipped(x: u8, y: u8) -> u8
     ensures { λ r. ⌜ r ≡ cond (arithLane Sub false x y .sign) 255 0 ⌝ }
 {
-    select::either(x < y, 255, 0)
+    select::either(x < std::num::wrapping_sub_u8(x, y), 255, 0)
 }

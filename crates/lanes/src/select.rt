@@ -11,9 +11,9 @@ fn word(lo: u8, hi: u8) -> u16
     lo as u16 + hi as u16 * 256
 }
 
-// Eight words stand in b and eight in c. They are written out, since a loop over both is not turned into vector code.
-pub fn words(b: [u8; 16], c: [u8; 16]) -> [u16; 16]
-    ensures { λ r. ⌜ r ≡ listed 16 (λ i. cond (ltb i 8) (pairAt b i) (pairAt c (i - 8))) ⌝ }
+// Written out, since a loop over both sources is not turned into vector code.
+fn eight(b: [u8; 16]) -> [u16; 8]
+    ensures { λ r. ⌜ r ≡ listed 8 (λ i. pairAt b i) ⌝ }
 {
     [
         word(b[0], b[1]),
@@ -24,14 +24,32 @@ pub fn words(b: [u8; 16], c: [u8; 16]) -> [u16; 16]
         word(b[10], b[11]),
         word(b[12], b[13]),
         word(b[14], b[15]),
-        word(c[0], c[1]),
-        word(c[2], c[3]),
-        word(c[4], c[5]),
-        word(c[6], c[7]),
-        word(c[8], c[9]),
-        word(c[10], c[11]),
-        word(c[12], c[13]),
-        word(c[14], c[15]),
+    ]
+}
+
+// Eight words stand in b and eight in c.
+pub fn words(b: [u8; 16], c: [u8; 16]) -> [u16; 16]
+    ensures { λ r. ⌜ r ≡ listed 16 (λ i. cond (ltb i 8) (pairAt b i) (pairAt c (i - 8))) ⌝ }
+{
+    let p = eight(b);
+    let q = eight(c);
+    [
+        p[0],
+        p[1],
+        p[2],
+        p[3],
+        p[4],
+        p[5],
+        p[6],
+        p[7],
+        q[0],
+        q[1],
+        q[2],
+        q[3],
+        q[4],
+        q[5],
+        q[6],
+        q[7],
     ]
 }
 

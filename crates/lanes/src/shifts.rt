@@ -2,8 +2,7 @@
 ghost use mathlib.Core.Path.{_≡_};
 ghost use mathlib.Core.Bool.{cond, true, false};
 ghost use Rattle.lanes.specs.Lane.{shiftLane};
-ghost use Rattle.lanes.specs.Lanes.{shiftLanes};
-ghost use Rattle.lanes.specs.Marks.{marked};
+ghost use Rattle.lanes.specs.Marks.{shiftMarks};
 use crate::Marks;
 use crate::select::either;
 
@@ -24,8 +23,8 @@ fn cut(signed: bool, x: u8, y: u8) -> Shifted
     Shifted { byte, whole }
 }
 
-pub fn sar(a: [u8; 16], b: [u8; 16]) -> Marks
-    ensures { λ r. ⌜ marked r ≡ shiftLanes true a b ⌝ }
+pub fn vsar(a: [u8; 16], b: [u8; 16]) -> Marks
+    ensures { λ r. ⌜ r ≡ shiftMarks true a b ⌝ }
 {
     let mut x = [0u8; 16];
     let mut z = [0u8; 16];
@@ -41,8 +40,8 @@ pub fn sar(a: [u8; 16], b: [u8; 16]) -> Marks
     }
 }
 
-pub fn shr(a: [u8; 16], b: [u8; 16]) -> Marks
-    ensures { λ r. ⌜ marked r ≡ shiftLanes false a b ⌝ }
+pub fn vshr(a: [u8; 16], b: [u8; 16]) -> Marks
+    ensures { λ r. ⌜ r ≡ shiftMarks false a b ⌝ }
 {
     let mut x = [0u8; 16];
     let mut z = [0u8; 16];

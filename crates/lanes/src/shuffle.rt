@@ -2,7 +2,7 @@
 ghost use mathlib.Core.Path.{_≡_};
 ghost use mathlib.Core.List.{_++_};
 ghost use Prim.Native.Nat.{_+_, _*_, _%_};
-ghost use lib.ListN.{getD, replicate};
+ghost use lib.ListN.{getD, take, drop, replicate};
 ghost use Rattle.lanes.specs.Lanes.{listed, component, source, swizzled};
 
 fn front(a: [u8; 16]) -> [u8; 32]
@@ -42,20 +42,31 @@ fn indices(hi: bool, sel: [u8; 16]) -> [u8; 16]
     k
 }
 
-fn picked(w: [u8; 32], k: [u8; 16]) -> [u8; 16]
-    ensures { λ r. ⌜ r ≡ listed 16 (λ i. getD w (getD k i 0 % 32) 0) ⌝ }
+// The picks go over a copy: each is read from the sources as they were.
+fn picked(w: [u8; 32], k: [u8; 16]) -> [u8; 32]
+    ensures { λ r. ⌜ r ≡ listed 16 (λ i. getD w (getD k i 0 % 32) 0) ++ drop 16 w ⌝ }
 {
-    let mut x = [0u8; 16];
+    let mut x = w;
     for i in 0..16 {
-        x[i] = w[k[i] as usize % 32];
+        x[i] = w[k[i] as usize % w.len()];
     }
     x
 }
 
-pub fn swizzle(hi: bool, a: [u8; 16], b: [u8; 16], sel: [u8; 16]) -> [u8; 16]
+fn half(w: [u8; 32]) -> [u8; 16]
+    ensures { λ r. ⌜ r ≡ take 16 w ⌝ }
+{
+    let mut x = [0u8; 16];
+    for i in 0..16 {
+        x[i] = w[i];
+    }
+    x
+}
+
+pub fn vswz(hi: bool, a: [u8; 16], b: [u8; 16], sel: [u8; 16]) -> [u8; 16]
     ensures { λ r. ⌜ r ≡ swizzled hi a b sel ⌝ }
 {
     let w = both(a, b);
     let k = indices(hi, sel);
-    picked(w, k)
+    half(picked(w, k))
 }

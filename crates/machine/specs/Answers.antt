@@ -1,5 +1,7 @@
 -- What each answer stands for: document 01's number, the cell accesses, and with the six pieces the outcome of the call.
-use Prim.Native.Nat.{ℕ}
+use Prim.Native.Nat.{ℕ, _*_, _/_}
+use mathlib.Core.Bool.{cond}
+use lib.Dec.{ltb}
 use Rattle.model.specs.State.{State}
 use Rattle.model.specs.Step.{Outcome, outcome, refusal}
 use Rattle.model.specs.Run.{RunOutcome, ended}
@@ -10,11 +12,6 @@ use Rattle.machine.specs.declared.Stepped.the-variants as S
 use Rattle.machine.specs.declared.End.{End}
 use Rattle.machine.specs.declared.End.the-variants as E
 use Rattle.machine.specs.declared.Ran.{Ran}
-
--- one triple
-abbrev pub answerOutcome : Answer → State → Outcome
-answerOutcome (A.Done n) s = outcome 0 n s
-answerOutcome (A.Refused k) s = outcome (refusal k) 0 s
 
 -- the single call
 abbrev pub numberOf : Stepped → ℕ
@@ -58,3 +55,7 @@ toEnd (A.Refused k) = E.Refused k
 
 abbrev pub ranOf : End → ℕ → ℕ → Ran
 ranOf e n k = record { end = e; steps = n; accesses = k }
+
+-- how many of a list's words a budget covers
+abbrev pub coveredBy : ℕ → ℕ → ℕ
+coveredBy count budget = cond (ltb (count / 3) budget) (3 * (count / 3)) (3 * budget)

@@ -1,9 +1,13 @@
-// The two units as one machine on the six lent pieces: one triple, the list call, the single call.
+// The machine on the six lent pieces: the list call, and the single call, which is a list of one triple.
 ghost use mathlib.Core.Path.{_≡_};
-ghost use Rattle.model.specs.State.{pieces, lengths, Sized};
-ghost use Rattle.model.specs.Step.{tripleOf, stepOf};
-ghost use Rattle.model.specs.Run.{runOf};
-ghost use Rattle.machine.specs.Answers.{answerOutcome, stepOutcome, runOutcome, toStep, toEnd, ranOf};
+ghost use mathlib.Core.Bool.{cond};
+ghost use Prim.Native.Nat.{_%_};
+ghost use lib.Dec.{ltb};
+ghost use lib.ListN.{length};
+ghost use Rattle.model.specs.State.{pieces, Sized};
+ghost use Rattle.model.specs.Step.{stepOf};
+ghost use Rattle.model.specs.Run.{runFrom, runOf};
+ghost use Rattle.machine.specs.Answers.{stepOutcome, runOutcome, coveredBy, toStep, toEnd, ranOf};
 use words::Answer;
 use words::Refusal;
 
@@ -29,103 +33,12 @@ pub struct Ran {
     pub accesses: u64,
 }
 
-// All six lengths are right.
-pub fn sized(ds: usize, a: usize, r: usize, c: usize, vc: usize, v: usize) -> bool
-    ensures { λ x. ⌜ x ≡ lengths ds a r c vc v ⌝ }
-{
-    if ds != 8192 {
-        return false;
-    }
-    if a != 32 {
-        return false;
-    }
-    if r != 32 {
-        return false;
-    }
-    if c != 4 {
-        return false;
-    }
-    if vc != 4 {
-        return false;
-    }
-    if v != 512 {
-        return false;
-    }
-    true
-}
-
 fn to_end(x: Answer) -> End
     ensures { λ r. ⌜ r ≡ toEnd x ⌝ }
 {
     match x {
         Answer::Done(_) => End::All,
         Answer::Refused(k) => End::Refused(k),
-    }
-}
-
-// One triple, where the lengths are known to be right. The opcode alone decides, once; there is no decoded word in between, which would have to
-// be put together and taken apart again at every step.
-pub fn triple(
-    word: u32,
-    side: u32,
-    mask: u32,
-    ds: &mut [u8],
-    a: &mut [u32],
-    r: &mut [u32],
-    c: &mut [u32],
-    vc: &mut [u32],
-    v: &mut [u8],
-) -> Answer
-    requires { ⌜ Sized (pieces ds a r c vc v) ⌝ }
-    ensures { λ x. ⌜ answerOutcome x (pieces (ds .exit) (a .exit) (r .exit) (c .exit) (vc .exit) (v .exit))
-        ≡ tripleOf word side mask (pieces (ds .entry) (a .entry) (r .entry) (c .entry) (vc .entry) (v .entry)) ⌝ }
-{
-    let op = words::op_of(word);
-    match op {
-        0x88 | 0xa8 => vector::min_signed(word, op == 0xa8, vc, v),
-        0x89 | 0xa9 => vector::max_signed(word, op == 0xa9, vc, v),
-        0x8a => vector::abs_signed(word, vc, v),
-        0x8b => vector::neg_signed(word, vc, v),
-        0x8c | 0xac => vector::add_signed(word, op == 0xac, vc, v),
-        0x8d => vector::sub_signed(word, false, vc, v),
-        0x8e | 0xae => vector::sar(word, op == 0xae, vc, v),
-        0x8f => vector::cmpad(word, mask, vc, v),
-        0x94 => vector::bitop(word, vc, v),
-        0x98 | 0xb8 => vector::min_unsigned(word, op == 0xb8, vc, v),
-        0x99 | 0xb9 => vector::max_unsigned(word, op == 0xb9, vc, v),
-        0x9a => vector::abs_unsigned(word, vc, v),
-        0x9b => vector::swz(word, v),
-        0x9c | 0xbc => vector::add_unsigned(word, op == 0xbc, vc, v),
-        0x9d | 0xbd => vector::sub_unsigned(word, op == 0xbd, vc, v),
-        0x9e | 0xbe => vector::shr(word, op == 0xbe, vc, v),
-        0x9f => vector::add9(word, vc, v),
-        0xa4 => vector::clip(word, vc, v),
-        0xa5 => vector::min_abs(word, vc, v),
-        0xaa => vector::ands(word, vc, v),
-        0xab => vector::xors(word, vc, v),
-        0xad => vector::mov_imm(word, vc, v),
-        0xaf => vector::ors(word, vc, v),
-        0xba => vector::mov(word, vc, v),
-        0xbb => vector::mov_flags(word, vc, v),
-        0xbf | 0xdf => Answer::Done(0),
-        0xc0 | 0xd0 => address::lda_row(word, side, ds, a, c, v),
-        0xc1 | 0xd1 => address::lda_column(word, side, ds, a, c, v),
-        0xc2 | 0xd2 => address::lda_word(word, side, ds, a, c, r),
-        0xc4 | 0xd4 => address::sta_row(word, side, ds, a, c, v),
-        0xc5 | 0xd5 => address::sta_column(word, side, ds, a, c, v),
-        0xc6 | 0xd6 => address::sta_word(word, side, ds, a, c, r),
-        0xca => address::aadd(word, side, a, c),
-        0xcb => address::add(word, side, a, c),
-        0xcc => address::setlo(word, a),
-        0xcd => address::sethi(word, a),
-        0xd3 => address::bitop(word, a, c),
-        0xd8 => address::ld_row(word, ds, a, c, v),
-        0xd9 => address::ld_column(word, ds, a, c, v),
-        0xda => address::ld_word(word, ds, a, c, r),
-        0xdc => address::st_row(word, ds, a, c, v),
-        0xdd => address::st_column(word, ds, a, c, v),
-        0xde => address::st_word(word, ds, a, c, r),
-        _ => Answer::Refused(words::unknown(op)),
     }
 }
 
@@ -139,7 +52,59 @@ fn report(end: End, steps: u32, accesses: u64) -> Ran
     }
 }
 
-// The list call: the lengths are tested once, and each triple's answer is taken apart.
+// How many of a list's words the budget covers: three for each step.
+fn covered(count: usize, budget: u32) -> usize
+    ensures { λ r. ⌜ r ≡ coveredBy count budget ⌝ }
+{
+    let all = count / 3;
+    let most = budget as usize;
+    if all < most { 3 * all } else { 3 * most }
+}
+
+// Why a run came to its end that did n of a list's words.
+fn ending(n: usize, count: usize) -> End
+    ensures { λ r. ⌜ r ≡ cond (ltb n count) End.Spent End.All ⌝ }
+{
+    if n < count { End::Spent } else { End::All }
+}
+
+// The loop over the triples, where the lengths are right. It stands in a function of its own: in one that also returns early its calls count as cold.
+fn turns(
+    words: &[u32],
+    budget: u32,
+    ds: &mut [u8],
+    a: &mut [u32],
+    r: &mut [u32],
+    c: &mut [u32],
+    vc: &mut [u32],
+    v: &mut [u8],
+) -> Ran
+    requires { ⌜ Sized (pieces ds a r c vc v) × (length (now words) % 3 ≡ 0) ⌝ }
+    ensures { λ x. ⌜ runOutcome x (pieces (ds .exit) (a .exit) (r .exit) (c .exit) (vc .exit) (v .exit))
+        ≡ runFrom budget (now (words .entry)) 0 0 (pieces (ds .entry) (a .entry) (r .entry) (c .entry) (vc .entry) (v .entry)) ⌝ }
+{
+    let end = covered(words.len(), budget);
+    let mut accesses: u64 = 0;
+    let mut i: usize = 0;
+    while i < end {
+        let x = units::triple(words[i], words[i + 1], words[i + 2], ds, a, r, c, vc, v);
+        let Answer::Done(n) = x else {
+            return report(to_end(x), (i / 3) as u32, accesses);
+        };
+        accesses += n;
+        i += 3;
+    }
+    report(ending(i, words.len()), (i / 3) as u32, accesses)
+}
+
+// Why a list is not begun: the lengths are looked at before the number of words.
+fn unfit(sized: bool) -> End
+    ensures { λ r. ⌜ r ≡ cond sized End.Ragged End.Lengths ⌝ }
+{
+    if sized { End::Ragged } else { End::Lengths }
+}
+
+// The list call: the lengths and the number of words are tested once.
 pub fn run(
     words: &[u32],
     budget: u32,
@@ -153,28 +118,12 @@ pub fn run(
     ensures { λ x. ⌜ runOutcome x (pieces (ds .exit) (a .exit) (r .exit) (c .exit) (vc .exit) (v .exit))
         ≡ runOf budget (now (words .entry)) (pieces (ds .entry) (a .entry) (r .entry) (c .entry) (vc .entry) (v .entry)) ⌝ }
 {
-    if !sized(ds.len(), a.len(), r.len(), c.len(), vc.len(), v.len()) {
-        return report(End::Lengths, 0, 0);
+    let sized = regs::sized(ds.len(), a.len(), r.len(), c.len(), vc.len(), v.len());
+    let whole = words.len() % 3 == 0;
+    if sized & whole {
+        return turns(words, budget, ds, a, r, c, vc, v);
     }
-    if words.len() % 3 != 0 {
-        return report(End::Ragged, 0, 0);
-    }
-    let mut steps: u32 = 0;
-    let mut accesses: u64 = 0;
-    let mut i: usize = 0;
-    while i < words.len() {
-        if steps == budget {
-            return report(End::Spent, steps, accesses);
-        }
-        let x = triple(words[i], words[i + 1], words[i + 2], ds, a, r, c, vc, v);
-        let Answer::Done(n) = x else {
-            return report(to_end(x), steps, accesses);
-        };
-        steps += 1;
-        accesses += n;
-        i += 3;
-    }
-    report(End::All, steps, accesses)
+    report(unfit(sized), 0, 0)
 }
 
 // What a list of one triple came to; with a budget of 1 it ends neither ragged nor spent.

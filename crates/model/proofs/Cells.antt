@@ -1,34 +1,34 @@
--- No step counts more than sixteen accesses.
-use mathlib.Core.Path.{_≡_, refl, sym, subst}
+-- A step counts the distinct (bank, cell) pairs of its address list, at most sixteen.
+use mathlib.Core.Path.{_≡_, refl, ap, _∙_}
 use Prim.Native.Nat.{ℕ, _≤_, zero-le}
 use mathlib.Core.Bool.{Bool, true, false, cond}
-use mathlib.Core.List.{List, _∷_, map-map}
-use lib.Bits.{bitOr}
+use mathlib.Core.List.{List, map-map}
 use Rattle.banks.specs.Bank.{pairOf}
-use Rattle.banks.specs.Line.{addresses}
+use Rattle.banks.specs.Line.{addresses, distinct}
 use Rattle.banks.specs.declared.Way.{Way}
 use Rattle.banks.proofs.Counts.{cells-le-16}
 use Rattle.words.specs.Table.{decodeOf}
-use Rattle.words.specs.declared.Address.{Address}
-use Rattle.words.specs.declared.Address.the-variants as A
-use Rattle.words.specs.declared.Vector.{Vector}
-use Rattle.words.specs.declared.Vector.the-variants as W
-use Rattle.words.specs.declared.Insn.{Insn}
-use Rattle.words.specs.declared.Insn.the-variants as N
-use Rattle.words.specs.declared.Decoded.{Decoded}
-use Rattle.words.specs.declared.Decoded.the-variants as D
+use Rattle.words.specs.Address.{Address}
+use Rattle.words.specs.Address as A
+use Rattle.words.specs.Vector.{Vector}
+use Rattle.words.specs.Vector as W
+use Rattle.words.specs.Insn.{Insn}
+use Rattle.words.specs.Insn as N
+use Rattle.words.specs.Decoded.{Decoded}
+use Rattle.words.specs.Decoded as D
 use Rattle.model.specs.State.{State, sizedOf}
 use Rattle.model.specs.Place.{Addr, Xlat, xlat}
-use Rattle.model.specs.Prog.{Prog, ret, _>>=_, run, Write, idle, load, Did, countsOf, done}
+use Rattle.model.specs.Prog.{Prog, ret, _>>=_, run, Write, idle, Did, Done, countsOf, done}
 use Rattle.model.specs.Prog as P
-use Rattle.model.specs.Address.{Base, base, address, increment, span, loads, into, from, loading, shortTo, plus}
+use Rattle.model.specs.Address.{address, increment, span, loads, from, loading}
 use Rattle.model.specs.Vector.{vector}
+use Rattle.model.specs.Claims.{pairsAt, pairsA, pairs}
 use Rattle.model.specs.Step.{did, countsX, entered, outcome, byDecoded, tripleOf, stepOf}
 use Rattle.model.proofs.Laws.{run-bind}
 
--- an access enters at most sixteen cells, whatever its way, code and address
-pub span-le : (way : Way) (c x : ℕ) → P.entered (span way c x) ≤ 16
-span-le way c x = rw (map-map (λ (b : Addr). pairOf (b .stride) (b .addr)) (λ y. record { stride = c; addr = y }) (addresses way c x)) (cells-le-16 way c x)
+-- an access enters the pairs of its address list
+span-are : (way : Way) (c x : ℕ) → P.entered (span way c x) ≡ distinct (pairsAt way c x)
+span-are way c x = ap distinct (map-map (λ (b : Addr). pairOf (b .stride) (b .addr)) (λ y. record { stride = c; addr = y }) (addresses way c x))
 
 -- the accesses that a program's result counts
 abbrev cost : Xlat → Prog Did → State → ℕ
@@ -36,24 +36,21 @@ cost X m s = countsOf (run X m s .access) .accesses
 
 module _ (X : Xlat) (s : State) where
   -- a program that goes on counts what its second part counts
-  cost-bind : {Y : Type 0} (m : Prog Y) (f : Y → Prog Did) → ((y : Y) → cost X (f y) s ≤ 16) → cost X (m >>= f) s ≤ 16
-  cost-bind m f h = subst (λ (d : Did). countsOf (d .access) .accesses ≤ 16) (sym (run-bind X m f s)) (h (run X m s))
+  cost-bind : {Y : Type 0} (m : Prog Y) (f : Y → Prog Did) → cost X (m >>= f) s ≡ cost X (f (run X m s)) s
+  cost-bind m f = ap (λ (d : Did). countsOf (d .access) .accesses) (run-bind X m f s)
 
-  loading-le : (way : Way) (n c x : ℕ) (rest : List Write) → cost X (loading way n c x rest) s ≤ 16
-  loading-le way n c x rest =
-      cost-bind (loads (span way c x)) (λ xs. ret (record { writes = into way n xs ∷ rest; access = load way c (span way c x) })) (λ xs. span-le way c x)
+  loading-are : (way : Way) (n c x : ℕ) (rest : List Write) → cost X (loading way n c x rest) s ≡ distinct (pairsAt way c x)
+  loading-are way n c x rest = cost-bind (loads (span way c x)) _ ∙ span-are way c x
 
-  address-le : (i : Address) → cost X (address i) s ≤ 16
-  address-le (A.Set o) = zero-le
-  address-le (A.Add o) = zero-le
-  address-le (A.Bitop o) = zero-le
-  address-le (A.Aadd o) = zero-le
-  address-le (A.Ld o) =
-      let b : Base = run X (base (o .base)) s in
-      loading-le (o .way) (o .reg) (b .stride) (bitOr (b .addr) (o .uimm)) (shortTo (o .cdst) (plus (b .addr) (o .uimm)) (b .limit))
-  address-le (A.St o) = cost-bind (from (o .way) (o .reg)) _ (λ xs. span-le (o .way) _ _)
-  address-le (A.Lda o) = cost-bind (increment (o .inc)) _ (λ y. loading-le (o .way) (o .reg) _ _ _)
-  address-le (A.Sta o) = cost-bind (increment (o .inc)) _ (λ y. cost-bind (from (o .way) (o .reg)) _ (λ xs. span-le (o .way) _ _))
+  address-are : (i : Address) → cost X (address i) s ≡ distinct (pairsA i s)
+  address-are (A.Set o) = refl
+  address-are (A.Add o) = refl
+  address-are (A.Bitop o) = refl
+  address-are (A.Aadd o) = refl
+  address-are (A.Ld o) = loading-are (o .way) (o .reg) _ _ _
+  address-are (A.St o) = cost-bind (from (o .way) (o .reg)) _ ∙ span-are (o .way) _ _
+  address-are (A.Lda o) = cost-bind (increment (o .inc)) _ ∙ loading-are (o .way) (o .reg) _ _ _
+  address-are (A.Sta o) = cost-bind (increment (o .inc)) _ ∙ cost-bind (from (o .way) (o .reg)) _ ∙ span-are (o .way) _ _
 
   vector-idle : (i : Vector) → run X (vector i) s .access ≡ idle
   vector-idle (W.Arith o) = simp run-bind
@@ -69,19 +66,40 @@ module _ (X : Xlat) (s : State) where
   vector-idle (W.MovImm o) = refl
   vector-idle (W.MovFlags dst) = refl
 
-  did-le : (i : Insn) → cost X (did i) s ≤ 16
-  did-le (N.Address i) = address-le i
-  did-le (N.Vector i) = rw (cost, vector-idle i) zero-le
-  did-le N.Nop = zero-le
+  did-are : (i : Insn) → cost X (did i) s ≡ distinct (pairs i s)
+  did-are (N.Address i) = address-are i
+  did-are (N.Vector i) = rw (cost, vector-idle i) refl
+  did-are N.Nop = refl
 
-  -- no instruction counts more than sixteen
-  pub counts-le : (i : Insn) → countsX X i s .accesses ≤ 16
-  counts-le i = rw (countsX, run-bind X (did i) (λ d. ret (done d)) s) (did-le i)
+  -- whatever the translation
+  pub counts-are : (i : Insn) → countsX X i s .accesses ≡ distinct (pairs i s)
+  counts-are i = ap (λ (d : Done). d .counts .accesses) (run-bind X (did i) (λ d. ret (done d)) s) ∙ did-are i
 
--- so under document 01's translation
-pub entered-le : (i : Insn) (s : State) → entered i s ≤ 16
+-- a step counts the distinct (bank, cell) pairs of its address list
+pub entered-are : (i : Insn) (s : State) → entered i s ≡ distinct (pairs i s)
 unfolding entered
-entered-le i s = counts-le xlat s i
+entered-are i s = counts-are xlat s i
+
+-- ---- at most sixteen
+
+pairsA-le : (i : Address) (s : State) → distinct (pairsA i s) ≤ 16
+pairsA-le (A.Set o) s = zero-le
+pairsA-le (A.Add o) s = zero-le
+pairsA-le (A.Bitop o) s = zero-le
+pairsA-le (A.Aadd o) s = zero-le
+pairsA-le (A.Ld o) s = cells-le-16 (o .way) _ _
+pairsA-le (A.St o) s = cells-le-16 (o .way) _ _
+pairsA-le (A.Lda o) s = cells-le-16 (o .way) _ _
+pairsA-le (A.Sta o) s = cells-le-16 (o .way) _ _
+
+pairs-le : (i : Insn) (s : State) → distinct (pairs i s) ≤ 16
+pairs-le (N.Address i) s = pairsA-le i s
+pairs-le (N.Vector i) s = zero-le
+pairs-le N.Nop s = zero-le
+
+-- no instruction counts more
+pub entered-le : (i : Insn) (s : State) → entered i s ≤ 16
+entered-le i s = rw (entered-are i s) (pairs-le i s)
 
 decoded-le : (d : Decoded) (s : State) → byDecoded d s .accesses ≤ 16
 decoded-le (D.Insn i) s = entered-le i s

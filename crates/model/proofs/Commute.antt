@@ -1,16 +1,16 @@
 -- Demand 3, over the table of places alone: one argument for all instructions.
 use mathlib.Core.Path.{_≡_, refl, ap, _∙_}
 use mathlib.Core.List.{List, _++_, Memᴰ·append-left, Memᴰ·append-right}
-use Rattle.words.specs.declared.Insn.{Insn}
+use Rattle.words.specs.Insn.{Insn}
 use Rattle.words.specs.Table.{decodeOf}
-use Rattle.words.specs.declared.Decoded.the-variants as D
+use Rattle.words.specs.Decoded as D
 use Prim.Native.Nat.{ℕ}
 use Rattle.model.specs.State.{State, Sized}
 use Rattle.model.specs.Place.{Place, Xlat, xlat}
 use Rattle.model.specs.Prog.{Done, Counts}
 use Rattle.model.specs.Step.{outcome, sem, stepped, entered, tripleOf, stepOf}
 use Rattle.model.specs.Table.{reads, writes}
-use Rattle.model.specs.Demand.{Apart, Free, Commute, Demand3}
+use Rattle.model.specs.Claims.{Apart, Free, Commute, Exchange, Swapped}
 use Rattle.model.proofs.Foot.{Clear, Exchanged, exchange}
 use Rattle.model.proofs.Match.{reads-are, writes-are}
 use Rattle.model.proofs.Lengths.{sized-stepped}
@@ -31,47 +31,39 @@ clear X i j s h = record {
 }
 
 -- under any translation: both orders end in one state, and each step counts the same in both
-pub demand3 : (X : Xlat) → Demand3 X
-demand3 X i j s h =
+pub commutes : (X : Xlat) → Exchange X
+commutes X i j s h =
     let e : Exchanged X (sem i) (sem j) s = exchange X (sem i) (sem j) s (clear X i j s h) in
     record { state = e .state; later = ap (λ (d : Done). d .counts) (e .later .result); earlier = ap (λ (d : Done). d .counts) (e .earlier .result) }
 
+-- under document 01's translation
+module _ (i j : Insn) (s : State) (h : Free xlat i j s) where
+  both : Commute xlat i j s
+  both = commutes xlat i j s h
+
+  pub later : entered j (stepped i s) ≡ entered j s
+  unfolding entered stepped
+  later = ap (λ (c : Counts). c .accesses) (both .later)
+
+  pub earlier : entered i (stepped j s) ≡ entered i s
+  unfolding entered stepped
+  earlier = ap (λ (c : Counts). c .accesses) (both .earlier)
+
+  pub same : stepped j (stepped i s) ≡ stepped i (stepped j s)
+  unfolding stepped
+  same = both .state
+
 -- ---- the same of two triples, as the single call answers them
 
-accepted : (w side mask : ℕ) (i : Insn) (s : State) → Sized s → decodeOf w side mask ≡ D.Insn i
+-- an instruction's triple is accepted, and gives what demand 2 says
+pub accepted : (w side mask : ℕ) (i : Insn) (s : State) → Sized s → decodeOf w side mask ≡ D.Insn i
     → stepOf w side mask s ≡ outcome 0 (entered i s) (stepped i s)
 unfolding tripleOf
 accepted w side mask i s z e = step-sized w side mask s z ∙ (rw e refl)
 
--- the two triples in this order: both are accepted, and count and leave what demand 2 says
-pub record InOrder (w side mask w′ side′ mask′ : ℕ) (i j : Insn) (s : State) : Type 0 where
-  pub first : stepOf w side mask s ≡ outcome 0 (entered i s) (stepped i s)
-  pub second : stepOf w′ side′ mask′ (stepped i s) ≡ outcome 0 (entered j s) (stepped j (stepped i s))
-
--- where two triples are accepted in a state of right lengths and are free of clashes there, both orders are accepted, each step counts
--- the same in both, and they end in one state
-pub record Swapped (w side mask w′ side′ mask′ : ℕ) (i j : Insn) (s : State) : Type 0 where
-  pub one : InOrder w side mask w′ side′ mask′ i j s
-  pub other : InOrder w′ side′ mask′ w side mask j i s
-  pub same : stepped j (stepped i s) ≡ stepped i (stepped j s)
-
+-- where two triples are accepted in a state of right lengths and are free of clashes there
 module _ (w side mask w′ side′ mask′ : ℕ) (i j : Insn) (s : State) (z : Sized s)
     (d : decodeOf w side mask ≡ D.Insn i) (d′ : decodeOf w′ side′ mask′ ≡ D.Insn j) (h : Free xlat i j s) where
-  both : Commute xlat i j s
-  both = demand3 xlat i j s h
-
-  later : entered j (stepped i s) ≡ entered j s
-  unfolding entered stepped
-  later = ap (λ (c : Counts). c .accesses) (both .later)
-
-  earlier : entered i (stepped j s) ≡ entered i s
-  unfolding entered stepped
-  earlier = ap (λ (c : Counts). c .accesses) (both .earlier)
-
-  same : stepped j (stepped i s) ≡ stepped i (stepped j s)
-  unfolding stepped
-  same = both .state
-
   pub swapped : Swapped w side mask w′ side′ mask′ i j s
   swapped =
       record {
@@ -79,13 +71,13 @@ module _ (w side mask w′ side′ mask′ : ℕ) (i j : Insn) (s : State) (z : 
           first = accepted w side mask i s z d;
           second =
               accepted w′ side′ mask′ j (stepped i s) (sized-stepped i s z) d′
-              ∙ ap (λ (k : ℕ). outcome 0 k (stepped j (stepped i s))) later;
+              ∙ ap (λ (k : ℕ). outcome 0 k (stepped j (stepped i s))) (later i j s h);
         };
         other = record {
           first = accepted w′ side′ mask′ j s z d′;
           second =
               accepted w side mask i (stepped j s) (sized-stepped j s z) d
-              ∙ ap (λ (k : ℕ). outcome 0 k (stepped i (stepped j s))) earlier;
+              ∙ ap (λ (k : ℕ). outcome 0 k (stepped i (stepped j s))) (earlier i j s h);
         };
-        same = same;
+        same = same i j s h;
       }

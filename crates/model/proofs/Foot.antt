@@ -5,7 +5,7 @@ use mathlib.Core.List.{List, [], _∷_, List·Memᴰ, List·Memᴰ·head, List·
 use Rattle.model.specs.State.{State}
 use Rattle.model.specs.Place.{Name, Place, Xlat, Val, get, put, place}
 use Rattle.model.specs.Prog.{Prog, ret, ask, run, asked, Write, puts, spots, Done}
-use Rattle.model.specs.Demand.{Apart}
+use Rattle.model.specs.Claims.{Apart}
 use Rattle.model.proofs.Lens.{put-comm, get-other}
 
 -- the state after a program's writes, and the places it writes, worked out in s

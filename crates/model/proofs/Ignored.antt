@@ -12,11 +12,11 @@ use Rattle.words.specs.Fields.{fieldsOf}
 use Rattle.words.specs.Table.{decodeOf, decodeAt, rows, none}
 use Rattle.words.specs.declared.Fields.{Fields}
 use Rattle.words.specs.declared.Refusal.the-variants.{Foreign}
-use Rattle.words.specs.declared.Decoded.{Decoded}
-use Rattle.words.specs.declared.Decoded.the-variants as D
+use Rattle.words.specs.Decoded.{Decoded}
+use Rattle.words.specs.Decoded as D
 use Rattle.model.specs.State.{State}
 use Rattle.model.specs.Step.{byDecoded, tripleOf}
-use Rattle.model.proofs.Numbers.{sided, masked}
+use Rattle.model.specs.Claims.{sided, masked}
 
 module _ (t : ℕ → Bool) where
   -- the first list where the test holds of the row's number, else the second

@@ -7,9 +7,9 @@ use lib.Dec.{eqb}
 use lib.ListN.{length, getD, take, length-set}
 use lib.Seq.{length-sets}
 use Rattle.words.specs.Table.{decodeOf}
-use Rattle.words.specs.declared.Insn.{Insn}
-use Rattle.words.specs.declared.Decoded.{Decoded}
-use Rattle.words.specs.declared.Decoded.the-variants as D
+use Rattle.words.specs.Insn.{Insn}
+use Rattle.words.specs.Decoded.{Decoded}
+use Rattle.words.specs.Decoded as D
 use Rattle.model.specs.State.{State, Sized, sizedOf, Piece, code, on, over}
 use Rattle.model.specs.Place.{Name, at, vec, byte, Xlat, xlat, Val, put, upd, edit, cut}
 use Rattle.model.specs.Prog.{run, Write, puts}

@@ -1,6 +1,5 @@
 -- A list gives what its steps give one after the other, and what it can count is bounded by its length and the budget.
 use mathlib.Core.Path.{_≡_, refl, sym, ap, _∙_}
-use mathlib.Core.Logic.{_↔_}
 use Prim.Native.Nat.{ℕ, _+_, _*_, _%_, _≤_, _<_, zero-le}
 use native.Mathlib.Omega.{arith}
 use native.Mathlib.Nat.{zero-add}
@@ -12,6 +11,7 @@ use lib.ListN.{length, length-append}
 use Rattle.model.specs.State.{State, Sized, sizedOf}
 use Rattle.model.specs.Step.{Outcome, outcome, tripleOf, stepOf}
 use Rattle.model.specs.Run.{RunOutcome, ended, runFrom, runOf}
+use Rattle.model.specs.Claims.{Starts}
 use Rattle.model.proofs.Laws.{turn}
 use Rattle.model.proofs.Refused.{refused-triple, triple-number-le, sized-if, sized-only, clash}
 use Rattle.model.proofs.Cells.{triple-le}
@@ -103,21 +103,10 @@ pub record Bounds (budget : ℕ) (ws : List ℕ) (n : ℕ) (o : RunOutcome) : Ty
   pub listed : o .steps * 3 ≤ n * 3 + length ws
   -- no more than sixteen accesses a step
   pub counted : o .accesses ≤ 16 * o .steps
-  -- 0 only where all is done
-  pub finished : o .number ≡ 0 → o .steps * 3 ≡ n * 3 + length ws
-  -- 7 only where the budget is spent, with triples left
-  pub spent : o .number ≡ 7 → (o .steps ≡ budget) × (o .steps * 3 < n * 3 + length ws)
 
--- a triple done moves a word's three from the list to the steps
+-- a triple done moves its three words from the list to the steps
 bounds-more : (budget w side mask : ℕ) (ws : List ℕ) (n : ℕ) (o : RunOutcome) → Bounds budget ws (n + 1) o → Bounds budget (w ∷ side ∷ mask ∷ ws) n o
-bounds-more budget w side mask ws n o b =
-    record {
-      budgeted = b .budgeted;
-      listed = omega arith;
-      counted = b .counted;
-      finished = λ e. omega (arith, b .finished e);
-      spent = λ e. omega (arith, b .spent e);
-    }
+bounds-more budget w side mask ws n o b = record { budgeted = b .budgeted; listed = omega (arith, b .listed); counted = b .counted }
 
 -- a run under way keeps within them
 pub bounds-from : (budget : ℕ) (ws : List ℕ) (n k : ℕ) (s : State) → length ws % 3 ≡ 0 → n ≤ budget → k ≤ 16 * n
@@ -129,7 +118,6 @@ bounds-from budget (w ∷ side ∷ []) n k s h l m = absurd (omega arith)
 bounds-from budget (w ∷ side ∷ mask ∷ ws) n k s h l m =
     let o : Outcome = tripleOf w side mask s in
     let c : o .accesses ≤ 16 = triple-le w side mask s in
-    let d : o .number ≤ 4 = triple-number-le w side mask s in
     turn (Bounds budget (w ∷ side ∷ mask ∷ ws) n) budget n (o .number)
     (ended 7 n k s) (runFrom budget ws (n + 1) (k + o .accesses) (o .after)) (ended (o .number) n k (o .after))
     (λ e. omega arith)
@@ -147,10 +135,6 @@ bounds budget ws s = go (sizedOf s) (eqb (length ws % 3) 0) (eqb-true (length ws
     go true true h = bounds-from budget ws 0 0 s (h refl) zero-le zero-le
     go true false h = omega arith
     go false c h = omega arith
-
--- a budget that covers the list never gives 7
-pub covered : (budget : ℕ) (ws : List ℕ) (s : State) → length ws ≤ 3 * budget → runOf budget ws s .number ≡ 7 → ⊥
-covered budget ws s h e = omega (arith, bounds budget ws s .spent e)
 
 -- no list call does more steps than its budget
 pub steps-budget : (budget : ℕ) (ws : List ℕ) (s : State) → runOf budget ws s .steps ≤ budget
@@ -179,13 +163,7 @@ from-number budget (w ∷ side ∷ mask ∷ ws) n k s =
     (ended 7 n k s) (runFrom budget ws (n + 1) (k + o .accesses) (o .after)) (ended (o .number) n k (o .after))
     (λ e. omega arith) (λ e z. from-number budget ws (n + 1) (k + o .accesses) (o .after)) (λ e z. omega arith)
 
--- document 01's order at the start of a list call: 5 exactly where a piece has another length, 6 exactly where the lengths are right and
--- the words are no whole triples
-pub record Starts (ws : List ℕ) (s : State) (m : ℕ) : Type 0 where
-  pub five : (m ≡ 5) ↔ (Sized s → ⊥)
-  pub six : (m ≡ 6) ↔ (Sized s × (length ws % 3 ≡ 0 → ⊥))
-
--- every list call starts so
+-- document 01's order at the start of a list call
 pub starts : (budget : ℕ) (ws : List ℕ) (s : State) → Starts ws s (runOf budget ws s .number)
 unfolding runOf
 starts budget ws s =

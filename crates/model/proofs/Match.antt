@@ -1,5 +1,5 @@
 -- The table lists what each instruction asks and writes, no more and no less: equality of lists.
-use mathlib.Core.Path.{_≡_, refl, ap, sym, _∙_}
+use mathlib.Core.Path.{_≡_, refl, ap, _∙_}
 use Prim.Native.Nat.{ℕ}
 use mathlib.Core.Bool.{Bool, true, false, cond}
 use mathlib.Core.List.{List, [], _∷_, _++_, map, append-nil}
@@ -11,23 +11,23 @@ use Rattle.words.specs.declared.Half as H
 use Rattle.words.specs.declared.Half.the-variants.{Low, High}
 use Rattle.words.specs.declared.Increment.{Increment}
 use Rattle.words.specs.declared.Increment.the-variants as I
-use Rattle.words.specs.declared.Second.{Second}
-use Rattle.words.specs.declared.Second.the-variants as S
-use Rattle.words.specs.declared.Input.{Input}
-use Rattle.words.specs.declared.Input.the-variants.{Mask, Signs}
-use Rattle.words.specs.declared.Address.{Address}
-use Rattle.words.specs.declared.Address.the-variants as A
-use Rattle.words.specs.declared.Vector.{Vector}
-use Rattle.words.specs.declared.Vector.the-variants as W
-use Rattle.words.specs.declared.Insn.{Insn}
-use Rattle.words.specs.declared.Insn.the-variants as N
+use Rattle.words.specs.Second.{Second}
+use Rattle.words.specs.Second as S
+use Rattle.words.specs.Input.{Input}
+use Rattle.words.specs.Input.{Mask, Signs}
+use Rattle.words.specs.Address.{Address}
+use Rattle.words.specs.Address as A
+use Rattle.words.specs.Vector.{Vector}
+use Rattle.words.specs.Vector as W
+use Rattle.words.specs.Insn.{Insn}
+use Rattle.words.specs.Insn as N
 use Rattle.model.specs.State.{State, A}
-use Rattle.model.specs.Place.{Place, Addr, Xlat, Val, get, place, byte, at}
+use Rattle.model.specs.Place.{Place, Addr, Xlat, get, place, byte, at}
 use Rattle.model.specs.Prog.{Prog, ret, ask, _>>=_, run, asked, Write, spots, below4, Did, Done, done}
 use lib.ListN.{drop}
 use Rattle.model.specs.Address.{address, span, loads, stores, into, from, loading, storing, increment, half}
 use Rattle.model.specs.Vector.{vector, second, input}
-use Rattle.model.specs.Step.{did, sem}
+use Rattle.model.specs.Step.{sem}
 use Rattle.model.specs.Table.{reads, writes, readsA, writesA, readsV, writesV, bytes, datum, written, halfOf}
 use Rattle.model.specs.Table as T
 

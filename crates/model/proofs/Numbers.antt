@@ -1,46 +1,29 @@
 -- Each answer number is given exactly under document 01's condition on the opcode, the side index and the side mask word.
 use mathlib.Core.Path.{_≡_, refl, sym, ap, _∙_}
-use Prim.Native.Nat.{ℕ, zero, suc, _+_, _-_, _%_, _≤_, _<_}
+use mathlib.Core.Logic.{_↔_}
+use Prim.Native.Nat.{ℕ, zero, suc, _+_, _-_, _≤_, _<_}
 use native.Mathlib.Omega.{arith}
 use native.Mathlib.Nat.{add-zero, add-suc, suc-add, le-of-suc-le-suc}
 use mathlib.Core.Bool.{Bool, true, false, cond, not, _&&_, _||_}
 use mathlib.Core.List.{List, [], _∷_, map}
-use borrow.Author.Tests.{eqb-true, ltb-false}
-use lib.Dec.{eqb, ltb, leb}
+use borrow.Author.Tests.{eqb-true, eq-eqb, ltb-true, ltb-false, le-ltb, lt-ltb}
+use lib.Dec.{eqb, ltb}
 use lib.ListN.{getD, List·getD-map}
 use Rattle.banks.specs.Line.{from, has}
 use Rattle.words.specs.Fields.{fieldsOf}
 use Rattle.words.specs.Table.{decodeOf, decodeAt, rows, none}
 use Rattle.words.specs.declared.Fields.{Fields}
 use Rattle.words.specs.declared.Refusal.the-variants.{Foreign}
-use Rattle.words.specs.declared.Decoded.{Decoded}
-use Rattle.words.specs.declared.Decoded.the-variants as D
+use Rattle.words.specs.Decoded.{Decoded}
+use Rattle.words.specs.Decoded as D
 use Rattle.model.specs.State.{State, sizedOf}
+use Rattle.model.specs.Claims.{foreign, documented, sidedOps, sided, masked, Exactly}
 use Rattle.model.specs.Step.{outcome, refusal, byDecoded, tripleOf, stepOf}
-
--- "thirty-five opcodes from 0x80 to 0xbf (low digit 8 to f in each of the four rows, and 94, a4, a5) and 24 from 0xc0 to 0xdf (all but
--- c3, c7, c8, c9, ce, cf, d7, db)"
-abbrev pub documented : ℕ → Bool
-documented op =
-    cond (ltb op 0xc0)
-    (leb 8 (op % 16) || has op (0x94 ∷ 0xa4 ∷ 0xa5 ∷ []))
-    (not (has op (0xc3 ∷ 0xc7 ∷ 0xc8 ∷ 0xc9 ∷ 0xce ∷ 0xcf ∷ 0xd7 ∷ 0xdb ∷ [])))
-
--- the instructions that use SRC2S: lda and sta by a register, aadd, add
-abbrev pub sided : ℕ → Bool
-sided op = has op (0xc0 ∷ 0xc1 ∷ 0xc2 ∷ 0xc4 ∷ 0xc5 ∷ 0xc6 ∷ 0xca ∷ 0xcb ∷ [])
-
--- vcmpad
-abbrev pub masked : ℕ → Bool
-masked op = eqb op 0x8f
+use Rattle.model.proofs.Refused.{clash, and-true, sized-if, sized-only, five-iff}
 
 -- "3 and 4 can't meet"
 pub not-both : (op : ℕ) → masked op ≡ true → sided op ≡ false
 not-both op e = rw (eqb-true op 0x8f e)
-
--- an opcode below 0x80 or above 0xdf
-abbrev pub foreign : ℕ → Bool
-foreign op = ltb op 0x80 || ltb 0xdf op
 
 -- of an opcode from 0x80 to 0xdf, with whether the side index is below 32 and the side mask word below 0x20000
 abbrev pub numberAt : Bool → Bool → ℕ → ℕ
@@ -115,27 +98,123 @@ step-number word side mask s = go (sizedOf s)
     go true = triple-number word side mask s
     go false = refl
 
+-- ---- document 01's table, from that
+
 -- which of the six numbers it is, as tests: z the lengths are right, f the opcode is foreign, d it is documented, i the side index is
 -- used and too large, m the side mask word is
-pub record Exactly (n : ℕ) (z f d i m : Bool) : Type 0 where
-  pub five : eqb n 5 ≡ not z
-  pub one : eqb n 1 ≡ z && f
-  pub two : eqb n 2 ≡ z && (not f && not d)
-  pub three : eqb n 3 ≡ z && (not f && (d && i))
-  pub four : eqb n 4 ≡ z && (not f && (d && (not i && m)))
-  pub zero : eqb n 0 ≡ z && (not f && (d && (not i && not m)))
+record Tests (n : ℕ) (z f d i m : Bool) : Type 0 where
+  one : eqb n 1 ≡ z && f
+  two : eqb n 2 ≡ z && (not f && not d)
+  three : eqb n 3 ≡ z && (not f && (d && i))
+  four : eqb n 4 ≡ z && (not f && (d && (not i && m)))
+  none : eqb n 0 ≡ z && (not f && (d && (not i && not m)))
 
-exactly : (z f d i m : Bool) → Exactly (cond z (cond f 1 (cond d (cond i 3 (cond m 4 0)) 2)) 5) z f d i m
-exactly false f d i m = record { five = refl; one = refl; two = refl; three = refl; four = refl; zero = refl }
-exactly true true d i m = record { five = refl; one = refl; two = refl; three = refl; four = refl; zero = refl }
-exactly true false false i m = record { five = refl; one = refl; two = refl; three = refl; four = refl; zero = refl }
-exactly true false true true m = record { five = refl; one = refl; two = refl; three = refl; four = refl; zero = refl }
-exactly true false true false true = record { five = refl; one = refl; two = refl; three = refl; four = refl; zero = refl }
-exactly true false true false false = record { five = refl; one = refl; two = refl; three = refl; four = refl; zero = refl }
+tests : (z f d i m : Bool) → Tests (cond z (cond f 1 (cond d (cond i 3 (cond m 4 0)) 2)) 5) z f d i m
+tests false f d i m = record { one = refl; two = refl; three = refl; four = refl; none = refl }
+tests true true d i m = record { one = refl; two = refl; three = refl; four = refl; none = refl }
+tests true false false i m = record { one = refl; two = refl; three = refl; four = refl; none = refl }
+tests true false true true m = record { one = refl; two = refl; three = refl; four = refl; none = refl }
+tests true false true false true = record { one = refl; two = refl; three = refl; four = refl; none = refl }
+tests true false true false false = record { one = refl; two = refl; three = refl; four = refl; none = refl }
 
--- document 01's table of answer numbers, for the single call
-pub step-exactly : (word side mask : ℕ) (s : State) → let op = fieldsOf word .op in
-    Exactly (stepOf word side mask s .number) (sizedOf s) (foreign op) (documented op) (sided op && not (ltb side 32)) (masked op && not (ltb mask 131072))
-step-exactly word side mask s = let op = fieldsOf word .op in
-    rw (step-number word side mask s)
-    (exactly (sizedOf s) (foreign op) (documented op) (sided op && not (ltb side 32)) (masked op && not (ltb mask 131072)))
+-- a number that a test decides
+by-test : {A : Type 0} (n k : ℕ) (b : Bool) → eqb n k ≡ b → (b ≡ true → A) → (A → b ≡ true) → (n ≡ k) ↔ A
+by-test n k b e f g = (λ h. f (sym e ∙ eq-eqb n k h), λ a. eqb-true n k (e ∙ g a))
+
+not-true : (a : Bool) → not a ≡ true → a ≡ false
+not-true true e = absurd (clash e)
+not-true false e = refl
+
+-- a test that each number of a list passes, one that is in it passes
+abbrev every : (ℕ → Bool) → List ℕ → Bool
+every p [] = true
+every p (y ∷ ys) = p y && every p ys
+
+has-every : (p : ℕ → Bool) (x : ℕ) (ys : List ℕ) → every p ys ≡ true → has x ys ≡ true → p x ≡ true
+has-every p x [] h e = absurd (clash e)
+has-every p x (y ∷ ys) h e = let q = and-true (p y) (every p ys) h in go (eqb x y) (eqb-true x y) (q .0) e (has-every p x ys (q .1))
+  where
+    go : (b : Bool) → (b ≡ true → x ≡ y) → p y ≡ true → b || has x ys ≡ true → (has x ys ≡ true → p x ≡ true) → p x ≡ true
+    go true q k r f = ap p (q refl) ∙ k
+    go false q k r f = f r
+
+-- the instructions that use a side input are documented
+abbrev Known : ℕ → Type 0
+Known op = (foreign op ≡ false) × (documented op ≡ true)
+
+sided-known : (op : ℕ) → sided op ≡ true → Known op
+sided-known op e =
+    let q = and-true (not (foreign op)) (documented op) (has-every (λ n. not (foreign n) && documented n) op sidedOps refl e) in
+    (not-true (foreign op) (q .0), q .1)
+
+masked-known : (op : ℕ) → masked op ≡ true → Known op
+masked-known op e = rw (eqb-true op 0x8f e) (refl, refl)
+
+-- a side input that is used and too large, and one that is not
+beyond : (k : Bool) (x n : ℕ) → k && not (ltb x n) ≡ true → (k ≡ true) × (n ≤ x)
+beyond k x n e = let q = and-true k (not (ltb x n)) e in (q .0, ltb-false x n (not-true (ltb x n) (q .1)))
+
+beyond-if : (k : Bool) (x n : ℕ) → k ≡ true → n ≤ x → k && not (ltb x n) ≡ true
+beyond-if k x n e h = rw (e, le-ltb x n h)
+
+within : (k : Bool) (x n : ℕ) → k && not (ltb x n) ≡ false → k ≡ true → x < n
+within k x n e f = go (ltb x n) (ltb-true x n) (rw f at e)
+  where
+    go : (b : Bool) → (b ≡ true → x < n) → not b ≡ false → x < n
+    go true q r = q refl
+    go false q r = absurd (clash (sym r))
+
+within-if : (k : Bool) (x n : ℕ) → (k ≡ true → x < n) → k && not (ltb x n) ≡ false
+within-if true x n h = rw (lt-ltb x n (h refl))
+within-if false x n h = refl
+
+module _ (word side mask : ℕ) (s : State) where
+  abbrev op : ℕ
+  op = fieldsOf word .op
+
+  abbrev n : ℕ
+  n = stepOf word side mask s .number
+
+  abbrev z : Bool
+  z = sizedOf s
+
+  -- the side index, and the side mask word, is used and too large
+  abbrev u : Bool
+  u = sided op && not (ltb side 32)
+
+  abbrev v : Bool
+  v = masked op && not (ltb mask 131072)
+
+  tested : Tests n z (foreign op) (documented op) u v
+  tested = rw (step-number word side mask s) (tests z (foreign op) (documented op) u v)
+
+  -- document 01's table of answer numbers, for the single call
+  pub step-exactly : Exactly (stepOf word side mask s .number) (fieldsOf word .op) side mask s
+  step-exactly = record {
+    five = five-iff word side mask s;
+    one = by-test n 1 _ (tested .one)
+        (λ e. let q = and-true z (foreign op) e in (sized-if s (q .0), q .1))
+        (λ h. rw (sized-only s (h .0), h .1));
+    two = by-test n 2 _ (tested .two)
+        (λ e. let q = and-true z _ e in let r = and-true (not (foreign op)) (not (documented op)) (q .1) in
+        (sized-if s (q .0), not-true (foreign op) (r .0), not-true (documented op) (r .1)))
+        (λ h. rw (sized-only s (h .0), h .1, h .2));
+    three = by-test n 3 _ (tested .three)
+        (λ e. let q = and-true z _ e in let r = and-true (not (foreign op)) _ (q .1) in let t = beyond (sided op) side 32 (and-true (documented op) u (r .1) .1) in
+        (sized-if s (q .0), t .0, t .1))
+        (λ h. let k = sided-known op (h .1) in rw (sized-only s (h .0), k .0, k .1) (beyond-if (sided op) side 32 (h .1) (h .2)));
+    four = by-test n 4 _ (tested .four)
+        (λ e. let q = and-true z _ e in let r = and-true (not (foreign op)) _ (q .1) in let t = and-true (documented op) _ (r .1) in
+        let x = beyond (masked op) mask 131072 (and-true (not u) v (t .1) .1) in (sized-if s (q .0), x .0, x .1))
+        (λ h. let k = masked-known op (h .1) in rw (sized-only s (h .0), k .0, k .1, not-both op (h .1)) (beyond-if (masked op) mask 131072 (h .1) (h .2)));
+    zero = by-test n 0 _ (tested .none)
+        (λ e. let q = and-true z _ e in let r = and-true (not (foreign op)) _ (q .1) in let t = and-true (documented op) _ (r .1) in
+        let x = and-true (not u) (not v) (t .1) in (
+          sized-if s (q .0),
+          not-true (foreign op) (r .0),
+          t .0,
+          (λ k. omega (arith, within (sided op) side 32 (not-true u (x .0)) k)),
+          λ k. omega (arith, within (masked op) mask 131072 (not-true v (x .1)) k),
+        ))
+        (λ h. rw (sized-only s (h .0), h .1, h .2, within-if (sided op) side 32 (λ k. omega (arith, h .3 k)), within-if (masked op) mask 131072 (λ k. omega (arith, h .4 k))));
+  }

@@ -10,8 +10,8 @@ use lib.ListN.{length}
 use Rattle.words.specs.Table.{decodeOf}
 use Rattle.words.specs.declared.Refusal.{Refusal}
 use Rattle.words.specs.declared.Refusal.the-variants.{Foreign, Undocumented, SideIndex, SideMask}
-use Rattle.words.specs.declared.Decoded.{Decoded}
-use Rattle.words.specs.declared.Decoded.the-variants as D
+use Rattle.words.specs.Decoded.{Decoded}
+use Rattle.words.specs.Decoded as D
 use Rattle.model.specs.State.{State, Sized, sizedOf, lengths}
 use Rattle.model.specs.Step.{Outcome, outcome, refusal, byDecoded, tripleOf, stepOf}
 
@@ -52,7 +52,7 @@ refused-accesses word side mask s h = ap (λ (o : Outcome). o .accesses) (refuse
 pub clash : false ≡ true → ⊥
 clash e = let z : _≡_ {A = ℕ} 0 1 = ap (λ (x : Bool). cond x 1 0) e in omega arith
 
-and-true : (a b : Bool) → a && b ≡ true → (a ≡ true) × (b ≡ true)
+pub and-true : (a b : Bool) → a && b ≡ true → (a ≡ true) × (b ≡ true)
 and-true true b e = (refl, e)
 and-true false b e = absurd (clash e)
 
@@ -91,6 +91,10 @@ refusal-back Undocumented = refl
 refusal-back SideIndex = refl
 refusal-back SideMask = refl
 
+-- their numbers tell them apart
+pub refusal-inj : (j k : Refusal) → refusal j ≡ refusal k → j ≡ k
+refusal-inj j k e = sym (refusal-back j) ∙ ap refusal-of e ∙ refusal-back k
+
 -- the refusals of a triple have the numbers 1 to 4
 pub refusal-range : (k : Refusal) → (1 ≤ refusal k) × (refusal k ≤ 4)
 refusal-range Foreign = omega arith
@@ -109,7 +113,7 @@ triple-number-le word side mask s = go (decodeOf word side mask)
 
 decoded-refusal : (d : Decoded) (k : Refusal) (s : State) → byDecoded d s .number ≡ refusal k → d ≡ D.Refused k
 decoded-refusal (D.Insn i) k s e = absurd (omega (arith, refusal-range k))
-decoded-refusal (D.Refused j) k s e = ap D.Refused (sym (refusal-back j) ∙ ap refusal-of e ∙ refusal-back k)
+decoded-refusal (D.Refused j) k s e = ap D.Refused (refusal-inj j k e)
 
 module _ (word side mask : ℕ) (s : State) where
   -- on pieces of right lengths the single call is the triple
@@ -135,3 +139,12 @@ module _ (word side mask : ℕ) (s : State) where
           → Sized s × (decodeOf word side mask ≡ D.Refused k)
       go true f e = (f refl, decoded-refusal (decodeOf word side mask) k s e)
       go false f e = absurd (omega (arith, refusal-range k))
+
+  -- on pieces of right lengths a call that is not done is refused by one of them
+  pub refused-as : Sized s → (stepOf word side mask s .number ≡ 0 → ⊥) → (k : Refusal) × (stepOf word side mask s .number ≡ refusal k)
+  unfolding tripleOf
+  refused-as z h = rw (step-sized z) (go (decodeOf word side mask) (rw (step-sized z) at h))
+    where
+      go : (d : Decoded) → (byDecoded d s .number ≡ 0 → ⊥) → (k : Refusal) × (byDecoded d s .number ≡ refusal k)
+      go (D.Insn i) f = absurd (f refl)
+      go (D.Refused k) f = (k, refl)

@@ -9,14 +9,16 @@ use lib.ListN.{getD, replicate}
 use Rattle.banks.specs.Bank.{at, placeOf, bankOf, turnOf, cellOf, hiloOf}
 use Rattle.banks.specs.Line.{addresses, line, startOf, stepOf, wordStart}
 use Rattle.banks.specs.declared.Way.the-variants.{Scalar}
-use Rattle.lanes.specs.Lanes.{listed, flags, lanesOf, movLanes, movImmLanes, flagBytes}
-use Rattle.lanes.specs.Lane.{movLane, movImmLane}
+use Rattle.lanes.specs.Lanes.{listed, flags, lanesOf, movLanes, movImmLanes, flagBytes, cmpadFlags}
+use Rattle.lanes.specs.Lane.{movLane, movImmLane, cmpadLane}
 use Rattle.words.specs.declared.Half as H
 use Rattle.words.specs.declared.Half.the-variants.{Low, High}
-use Rattle.words.specs.declared.Address.the-variants as A
-use Rattle.words.specs.declared.Vector.the-variants as W
-use Rattle.words.specs.declared.Insn.{Insn}
-use Rattle.words.specs.declared.Insn.the-variants as N
+use Rattle.words.specs.Input.{Input}
+use Rattle.words.specs.Input.{Mask, Signs}
+use Rattle.words.specs.Address as A
+use Rattle.words.specs.Vector as W
+use Rattle.words.specs.Insn.{Insn}
+use Rattle.words.specs.Insn as N
 use Rattle.model.specs.State.{State, state}
 use Rattle.model.specs.Number.{readsOf, writesOf, touchesOf}
 use Rattle.model.specs.Swap.{has}
@@ -54,6 +56,10 @@ vmov d x c = N.Vector (W.MovImm (record { dst = d; byte = x; vcdst = c }))
 
 abbrev mov : ℕ → ℕ → Insn
 mov d n = N.Vector (W.Mov (record { dst = d; src1 = n; vcdst = 7 }))
+
+-- vcmpad of the pair $v0, $v1 and of $v2, its flags in $vc0
+abbrev vcmpad : ℕ → Input → Insn
+vcmpad op x = N.Vector (W.Cmpad (record { op = op; src1 = 0; src2 = 2; input = x; vcdst = 0 }))
 
 module _ (ds a r c vc v : List ℕ) where
   -- the low half of $a0: set, and read by an add
@@ -105,3 +111,22 @@ module _ (ds a r c vc v : List ℕ) where
   pub scalar-register : Clashes (ld 0 0) (st 0 1) (state (0 ∷ 0 ∷ ds) (0 ∷ 16 ∷ a) (5 ∷ r) c vc v) (64 ∷ []) []
   unfolding readsOf writesOf stepped addresses line startOf stepOf wordStart at placeOf bankOf turnOf cellOf hiloOf
   scalar-register = record { forth = refl; back = refl; differ = λ e. omega (arith, ap (λ (t : State). getD (t .ds) 1 0) e) }
+
+  -- $v1, the second register of vcmpad's pair: written by vmov; the distance 0 is the second register's 0 before, and not its 1 after
+  pub second-of-pair : Clashes (vmov 1 1 7) (vcmpad 0 (Mask 0)) (state ds a r c (0 ∷ vc) (replicate 48 0 ++ v)) (97 ∷ []) []
+  unfolding readsOf writesOf stepped movImmLanes lanesOf listed flags movImmLane cmpadFlags cmpadLane
+  second-of-pair = record { forth = refl; back = refl; differ = λ e. omega (arith, ap (λ (t : State). getD (t .vc) 0 0) e) }
+
+  -- the signs of $vc0, vcmpad's input where the mask is not valid: cleared by vmov, and turned by vcmpad with CMPOP 5, "not the first".
+  -- vcmpad writes the flags that it reads, so the two clash there by writing too. But each by itself leaves the same flags, so that it
+  -- does not matter which of them writes last: it matters that vcmpad reads
+  abbrev pub signed : State
+  signed = state ds a r c (0xffff ∷ vc) (replicate 16 0 ++ (replicate 16 1 ++ (replicate 16 0 ++ v)))
+
+  pub input-signs : Clashes (vmov 3 1 0) (vcmpad 5 Signs) signed (136 ∷ 137 ∷ []) (136 ∷ 137 ∷ [])
+  unfolding readsOf writesOf stepped movImmLanes lanesOf listed flags movImmLane cmpadFlags cmpadLane
+  input-signs = record { forth = refl; back = refl; differ = λ e. omega (arith, ap (λ (t : State). getD (t .vc) 0 0) e) }
+
+  pub input-signs-alone : stepped (vmov 3 1 0) signed .vc ≡ stepped (vcmpad 5 Signs) signed .vc
+  unfolding stepped movImmLanes lanesOf listed flags movImmLane cmpadFlags cmpadLane
+  input-signs-alone = refl

@@ -1,4 +1,5 @@
--- What a reader must believe: the state, the places, each instruction's meaning, a step and a run.
+-- What a reader must believe: the state, the places, each instruction's meaning, a step and a run, the table of places, the claims, the
+-- places' numbers and the answers about swapping.
 pub mod State
 pub mod Place
 pub mod Prog
@@ -7,6 +8,6 @@ pub mod Vector
 pub mod Step
 pub mod Run
 pub mod Table
-pub mod Demand
+pub mod Claims
 pub mod Number
 pub mod Swap

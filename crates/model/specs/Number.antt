@@ -1,8 +1,8 @@
 -- Places as numbers: the numbering that docs/PLACES.md fixes.
-use Prim.Native.Nat.{ℕ, _+_, _*_, _<_}
+use Prim.Native.Nat.{ℕ, _+_, _*_}
 use mathlib.Core.List.{List, map, _++_}
-use Rattle.words.specs.declared.Insn.{Insn}
-use Rattle.model.specs.State.{State, Piece, A, R, C, VC}
+use Rattle.words.specs.Insn.{Insn}
+use Rattle.model.specs.State.{State, A, R, C, VC}
 use Rattle.model.specs.Place.{Half, lo, hi, Place, at, vec, byte, xlat}
 use Rattle.model.specs.Table.{reads, writes}
 

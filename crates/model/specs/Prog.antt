@@ -1,7 +1,7 @@
 -- What an instruction does: it asks what places hold, one after the other, and ends with what it writes and which access it made.
 -- So all sources are read before anything is written, and all that an instruction can depend on is what it asked.
 use Prim.Native.Nat.{ℕ}
-use mathlib.Core.Bool.{Bool, cond}
+use mathlib.Core.Bool.{cond}
 use mathlib.Core.List.{List, [], _∷_, map}
 use lib.Dec.{ltb}
 use Rattle.banks.specs.Bank.{pairOf}

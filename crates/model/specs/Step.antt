@@ -5,10 +5,10 @@ use mathlib.Core.List.{[]}
 use Rattle.words.specs.Table.{decodeOf}
 use Rattle.words.specs.declared.Refusal.{Refusal}
 use Rattle.words.specs.declared.Refusal.the-variants.{Foreign, Undocumented, SideIndex, SideMask}
-use Rattle.words.specs.declared.Insn.{Insn}
-use Rattle.words.specs.declared.Insn.the-variants as N
-use Rattle.words.specs.declared.Decoded.{Decoded}
-use Rattle.words.specs.declared.Decoded.the-variants as D
+use Rattle.words.specs.Insn.{Insn}
+use Rattle.words.specs.Insn as N
+use Rattle.words.specs.Decoded.{Decoded}
+use Rattle.words.specs.Decoded as D
 use Rattle.model.specs.State.{State, sizedOf}
 use Rattle.model.specs.Place.{Xlat, xlat}
 use Rattle.model.specs.Prog.{Prog, ret, _>>=_, run, puts, Did, Done, Counts, only, done}

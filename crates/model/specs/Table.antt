@@ -12,16 +12,16 @@ use Rattle.words.specs.declared.Half as H
 use Rattle.words.specs.declared.Half.the-variants.{Low, High}
 use Rattle.words.specs.declared.Increment.{Increment}
 use Rattle.words.specs.declared.Increment.the-variants as I
-use Rattle.words.specs.declared.Second.{Second}
-use Rattle.words.specs.declared.Second.the-variants as S
-use Rattle.words.specs.declared.Input.{Input}
-use Rattle.words.specs.declared.Input.the-variants.{Mask, Signs}
-use Rattle.words.specs.declared.Address.{Address}
-use Rattle.words.specs.declared.Address.the-variants as A
-use Rattle.words.specs.declared.Vector.{Vector}
-use Rattle.words.specs.declared.Vector.the-variants as W
-use Rattle.words.specs.declared.Insn.{Insn}
-use Rattle.words.specs.declared.Insn.the-variants as N
+use Rattle.words.specs.Second.{Second}
+use Rattle.words.specs.Second as S
+use Rattle.words.specs.Input.{Input}
+use Rattle.words.specs.Input.{Mask, Signs}
+use Rattle.words.specs.Address.{Address}
+use Rattle.words.specs.Address as A
+use Rattle.words.specs.Vector.{Vector}
+use Rattle.words.specs.Vector as W
+use Rattle.words.specs.Insn.{Insn}
+use Rattle.words.specs.Insn as N
 use Rattle.model.specs.State.{State}
 use Rattle.model.specs.Place.{Place, vec, byte, Xlat, alo, ahi, reg, long, short, signs, zeros}
 

@@ -7,14 +7,14 @@ use lib.ListN.{replicate}
 use Rattle.lanes.specs.Lanes.{arithLanes, shiftLanes, clipLanes, add9Lanes, minAbsLanes, bitopLanes, logicLanes, cmpadFlags, swizzled, movLanes, movImmLanes, flagBytes}
 use Rattle.lanes.specs.Lanes.{Lanes}
 use Rattle.lanes.specs.declared.Flags.{Flags}
-use Rattle.words.specs.declared.Second.{Second}
-use Rattle.words.specs.declared.Second.the-variants.{Register, Byte, Absent}
-use Rattle.words.specs.declared.Input.{Input}
-use Rattle.words.specs.declared.Input.the-variants.{Mask, Signs}
-use Rattle.words.specs.declared.Vector.{Vector}
-use Rattle.words.specs.declared.Vector.the-variants.{Arith, Shift, Clip, Add9, MinAbs, Bitop, Logic, Cmpad, Swz, Mov, MovImm, MovFlags}
+use Rattle.words.specs.Second.{Second}
+use Rattle.words.specs.Second.{Register, Byte, Absent}
+use Rattle.words.specs.Input.{Input}
+use Rattle.words.specs.Input.{Mask, Signs}
+use Rattle.words.specs.Vector.{Vector}
+use Rattle.words.specs.Vector.{Arith, Shift, Clip, Add9, MinAbs, Bitop, Logic, Cmpad, Swz, Mov, MovImm, MovFlags}
 use Rattle.model.specs.Place.{vec, signs, zeros}
-use Rattle.model.specs.Prog.{Prog, ret, ask, _>>=_, read, Write, _≔_, below4, Did, only}
+use Rattle.model.specs.Prog.{Prog, ret, _>>=_, read, Write, _≔_, below4, Did, only}
 
 -- $vc[VCDST].sf and .zf
 abbrev pub flagsTo : ℕ → ℕ → ℕ → List Write

@@ -1,4 +1,7 @@
 // The library's two questions about instructions, with what they write through pointers as part of the answer: the programs that ask them share this.
+ghost use mathlib.Core.Path.{_≡_};
+ghost use Rattle.model.specs.State.{pieces};
+ghost use Rattle.model.specs.Swap.{verdict, swapOutcome, swapOf, placesOutcome, placesOf};
 
 // The instruction word, the side index and the side mask word.
 pub struct Triple {
@@ -31,11 +34,14 @@ pub fn may_swap(
     c: &[u32],
     vc: &[u32],
     v: &[u8],
-) -> Swap {
+) -> Swap
+    ensures { λ x. ⌜ swapOutcome (x .answer) (verdict (x .clash) (x .place) (x .writer))
+        ≡ swapOf (first .word) (first .side) (first .mask) (second .word) (second .side) (second .mask) (pieces (ds .entry) (a .entry) (r .entry) (c .entry) (vc .entry) (v .entry)) ⌝ }
+{
     let mut clash: u32 = 0;
     let mut place: u32 = 0;
     let mut writer: u32 = 0;
-    let answer = vp1::pairs::vp1_may_swap(
+    let answer = vp1_order::vp1_may_swap(
         first.word,
         first.side,
         first.mask,
@@ -69,10 +75,13 @@ pub fn places(
     c: &[u32],
     vc: &[u32],
     v: &[u8],
-) -> Listed {
+) -> Listed
+    ensures { λ x. ⌜ placesOutcome (x .answer) (x .reads) (x .writes) (now (buffer .exit))
+        ≡ placesOf (t .word) (t .side) (t .mask) (pieces (ds .entry) (a .entry) (r .entry) (c .entry) (vc .entry) (v .entry)) (now (buffer .entry)) ⌝ }
+{
     let mut reads: u32 = 0;
     let mut writes: u32 = 0;
-    let answer = vp1::pairs::vp1_places(
+    let answer = vp1_order::vp1_places(
         t.word,
         t.side,
         t.mask,

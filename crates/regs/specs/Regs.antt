@@ -25,6 +25,10 @@ unfoldable pub withHalf : Half → ℕ → ℕ → ℕ
 withHalf Low x w = w / 65536 * 65536 + x % 65536
 withHalf High x w = x * 65536 + w % 65536
 
+-- addr moved on, modulo 65,536
+abbrev pub plus : ℕ → ℕ → ℕ
+plus x y = (x + y) % 65536
+
 -- a $c word with the long flags of a result, or with the end flag
 unfoldable pub withLong : ℕ → ℕ → ℕ
 withLong res w = w / 1024 * 1024 + (res / 2147483648 + 2 * cond (eqb res 0) 1 0) % 4 * 256 + w % 256

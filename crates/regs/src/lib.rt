@@ -1,9 +1,50 @@
-// One register, or one register's flags, of a lent piece: what both units read and write.
+// The lent pieces: whether all six have the right lengths, and one register, or one register's flags, of a piece. And the number of a refusal,
+// for the calls that C makes.
 ghost use mathlib.Core.Path.{_≡_};
 ghost use Prim.Native.Nat.{_<_};
 ghost use lib.ListN.{length};
-ghost use Rattle.regs.specs.Regs.{vregOf, withVreg, baseOf, withHalf, withLong, withEnd, longAt, endAt, flagsAt};
+ghost use Rattle.model.specs.State.{lengths};
+ghost use Rattle.model.specs.Step.{refusal};
+ghost use Rattle.regs.specs.Regs.{vregOf, withVreg, baseOf, withHalf, plus, withLong, withEnd, longAt, endAt, flagsAt};
 use words::Half;
+use words::Refusal;
+
+// Document 01's number of a refusal.
+pub fn refusal_number(k: Refusal) -> u32
+    ensures { λ n. ⌜ n ≡ refusal k ⌝ }
+{
+    match k {
+        Refusal::Foreign => 1,
+        Refusal::Undocumented => 2,
+        Refusal::SideIndex => 3,
+        Refusal::SideMask => 4,
+    }
+}
+
+// All six lengths are right.
+pub fn sized(ds: usize, a: usize, r: usize, c: usize, vc: usize, v: usize) -> bool
+    ensures { λ x. ⌜ x ≡ lengths ds a r c vc v ⌝ }
+{
+    if ds != 8192 {
+        return false;
+    }
+    if a != 32 {
+        return false;
+    }
+    if r != 32 {
+        return false;
+    }
+    if c != 4 {
+        return false;
+    }
+    if vc != 4 {
+        return false;
+    }
+    if v != 512 {
+        return false;
+    }
+    true
+}
 
 // The fields of an $a word.
 pub struct Base {
@@ -29,6 +70,14 @@ pub fn with_half(half: Half, x: u16, word: u32) -> u32
         Half::Low => word / 65536 * 65536 + x as u32,
         Half::High => x as u32 * 65536 + word % 65536,
     }
+}
+
+// An $a word with addr moved on by y: nothing else of the word changes.
+pub fn moved(word: u32, y: u16) -> u32
+    ensures { λ r. ⌜ r ≡ withHalf Half.Low (plus (baseOf word .addr) y) word ⌝ }
+{
+    let x = std::num::wrapping_add_u16((word % 65536) as u16, y);
+    with_half(Half::Low, x, word)
 }
 
 // Bit 8: bit 31 of the result. Bit 9: the result is 0.

@@ -9,10 +9,10 @@ use lib.Dec.{T, ltb, eqb}
 use lib.Bits.{bitAnd, bitXor, and-mask, xor-comm, xor-zero-r, xor-shifted, xor-block, xor-lt}
 use lib.Pow as Pow
 use lib.IntN.{ℤ, pos, negsuc, _+ℤ_, _-ℤ_, negℤ, subℕ, natAbs, +ℤ-idl}
-use lib.Signed.{mag, ltZ, nonNeg, natAbs-le}
+use lib.Signed.{mag, ltZ, nonNeg}
 use borrow.Author.Tests.{ne-eqb, lt-ltb, le-ltb, ltb-true, ltb-false}
 use mir.Syntax.{w32}
-use mir.Val.{Fits, SFits, ofZ, toZ}
+use mir.Val.{SFits, ofZ, toZ}
 use mir.Facts as F
 use Rattle.signed.specs.Signed.{isZero, sext, widen, low}
 
@@ -170,9 +170,6 @@ pub natAbs-neg : (z : ℤ) → natAbs (negℤ z) ≡ natAbs z
 natAbs-neg (pos zero) = refl
 natAbs-neg (pos (suc n)) = refl
 natAbs-neg (negsuc n) = refl
-
-pub natAbs-fits : (z : ℤ) → mag z < 256 → Fits w32 (natAbs z)
-natAbs-fits z h = record { fits = omega (arith, natAbs-le z h) }
 
 pub neg-natural : (z : ℤ) → ltZ z (pos 0) ≡ true → T (nonNeg (negℤ z))
 neg-natural (pos n) e = let z : ⊥ = omega (arith, ltb-true n 0 e) in absurd z

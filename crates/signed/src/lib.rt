@@ -6,7 +6,7 @@ ghost use lib.Signed.{mag};
 ghost use Rattle.signed.specs.Signed.{sext, widen, low, clip, shifted};
 
 // A value in place of an `if` whose arms meet.
-pub fn pick(t: bool, a: i32, b: i32) -> i32
+fn pick(t: bool, a: i32, b: i32) -> i32
     ensures { λ r. ⌜ r ≡ cond t a b ⌝ }
 {
     if t { a } else { b }

@@ -9,9 +9,9 @@ use lib.Seq.{sets}
 use Rattle.words.specs.Bounded.{Bounded, BoundedD}
 use Rattle.words.specs.Table.{decodeOf}
 use Rattle.words.specs.declared.Refusal.{Refusal}
-use Rattle.words.specs.declared.Insn.{Insn}
-use Rattle.words.specs.declared.Decoded.{Decoded}
-use Rattle.words.specs.declared.Decoded.the-variants as D
+use Rattle.words.specs.Insn.{Insn}
+use Rattle.words.specs.Decoded.{Decoded}
+use Rattle.words.specs.Decoded as D
 use Rattle.words.proofs.Bound.{bounded}
 use Rattle.model.specs.State.{State, sizedOf}
 use Rattle.model.specs.Swap.{has, Verdict, verdict, firstIn, free, verdictOf, SwapOutcome, swapOutcome, swapOf, PlacesOutcome, placesOutcome, placesOf}
@@ -79,8 +79,8 @@ module _ (f g : Touches) {x : Found} (e : x ≡ firstOf (written f) (held (g .li
 -- ---- decode
 
 -- what is decoded names registers that are there
-pub named : (word side mask : ℕ) (d : Decoded) (i : Insn) → d ≡ decodeOf word side mask → d ≡ D.Insn i → Bounded i
-named word side mask d i e f = subst BoundedD f (subst⁻¹ BoundedD e (bounded word side mask))
+pub named : (word side mask : ℕ) {d : Decoded} {i : Insn} → d ≡ decodeOf word side mask → d ≡ D.Insn i → Bounded i
+named word side mask e f = subst BoundedD f (subst⁻¹ BoundedD e (bounded word side mask))
 
 -- ---- footprints
 

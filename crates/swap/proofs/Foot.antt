@@ -7,10 +7,10 @@ use mathlib.Core.List.{List, [], _∷_, _++_, map, List·Memᴰ, List·Memᴰ·h
 use lib.ListN.{length, take, drop, replicate, length-append, length-map}
 use lib.Seq.{sets, sets-eq, take-append-seam, drop-append-seam}
 use Rattle.words.specs.Bounded.{Bounded}
-use Rattle.words.specs.declared.Address.{Address}
-use Rattle.words.specs.declared.Address.the-variants as A
-use Rattle.words.specs.declared.Insn.{Insn}
-use Rattle.words.specs.declared.Insn.the-variants as N
+use Rattle.words.specs.Address.{Address}
+use Rattle.words.specs.Address as A
+use Rattle.words.specs.Insn.{Insn}
+use Rattle.words.specs.Insn as N
 use Rattle.model.specs.State.{State}
 use Rattle.model.specs.Place.{Place, xlat}
 use Rattle.model.specs.Table.{reads, writes, readsA, writesA}

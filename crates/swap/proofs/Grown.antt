@@ -1,5 +1,5 @@
 -- A listing with some places more, and then with some more again; and where flags are written or not.
-use mathlib.Core.Path.{_≡_, refl, sym, ap, ap₂, _∙_}
+use mathlib.Core.Path.{_≡_, refl, sym, ap, ap₂, subst, _∙_}
 use Prim.Native.Nat.{ℕ, suc, _+_, _*_, _≤_, _<_}
 use native.Mathlib.Omega.{arith}
 use native.Mathlib.Nat.{add-zero, add-suc, suc-add}
@@ -7,6 +7,7 @@ use mathlib.Core.List.{List, [], _∷_, _++_, map}
 use borrow.Author.Tests.{lt-ltb, le-ltb}
 use lib.ListN.{length, length-append, length-map}
 use lib.Seq.{sets}
+use Rattle.words.specs.declared.Fields.{Fields}
 use Rattle.words.specs.declared.Half.{Half}
 use Rattle.words.specs.declared.Half.the-variants.{Low, High}
 use Rattle.model.specs.Place.{Place}
@@ -77,6 +78,14 @@ room-next {l} {m} {ps} {qs} h e =
     let k = ap (λ (x : Listing). x .count) (e .is) in
     let n = length-map ps number in
     record { free = omega (arith, h .free); there = numbered-next ps qs (h .there) }
+
+-- ---- fields: what the fields that were cut name is what the word's fields name
+
+pub room-cut : {l : Listing} (P : Fields → List Place) {f g : Fields} → f ≡ g → Room l (P g) → Room l (P f)
+room-cut {l} P e h = subst (λ (x : Fields). Room l (P x)) (sym e) h
+
+pub adds-cut : {l r : Listing} (P : Fields → List Place) {f g : Fields} → f ≡ g → Adds l (P f) r → Adds l (P g) r
+adds-cut {l} {r} P e h = subst (λ (x : Fields). Adds l (P x) r) e h
 
 -- ---- flags
 

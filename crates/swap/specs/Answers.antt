@@ -2,8 +2,8 @@
 use Prim.Native.Nat.{ℕ}
 use mathlib.Core.Bool.{cond}
 use mathlib.Core.List.{List, [], _∷_}
-use Rattle.words.specs.declared.Decoded.{Decoded}
-use Rattle.words.specs.declared.Decoded.the-variants as D
+use Rattle.words.specs.Decoded.{Decoded}
+use Rattle.words.specs.Decoded as D
 use Rattle.model.specs.Step.{refusal}
 use Rattle.model.specs.Swap.{has, Verdict, verdict, free, SwapOutcome, swapOutcome, PlacesOutcome, placesOutcome}
 use Rattle.swap.specs.declared.Found.{Found}

@@ -6,7 +6,7 @@ use lib.ListN.{length, take, replicate}
 use lib.Seq.{sets}
 use Rattle.words.specs.declared.Half.{Half}
 use Rattle.words.specs.declared.Half.the-variants.{Low, High}
-use Rattle.words.specs.declared.Insn.{Insn}
+use Rattle.words.specs.Insn.{Insn}
 use Rattle.model.specs.State.{State, state}
 use Rattle.model.specs.Place.{Place, long, short}
 use Rattle.model.specs.Table.{written}

@@ -4,6 +4,7 @@ ghost use Prim.Native.Nat.{_≤_, _-_};
 ghost use lib.ListN.{length};
 ghost use lib.Seq.{sets};
 ghost use Rattle.words.specs.Bounded.{Bounded};
+ghost use Rattle.words.specs.Meant.{meant, meantD};
 ghost use Rattle.model.specs.State.{pieces};
 ghost use Rattle.model.specs.Swap.{swapOf, placesOutcome, placesOf};
 ghost use Rattle.swap.specs.Listing.{held, lent, footprintOf};
@@ -14,6 +15,8 @@ use words::Refusal;
 
 mod clash; // clash.rt: the first place of one listing that is in another
 mod list; // list.rt: a listing, and with places of one kind more
+mod results; // results.rt: what each kind of operands writes
+mod sources; // sources.rt: what each kind of operands reads
 mod table; // table.rt: what an instruction reads and what it writes
 
 // The numbers of some places: the first `count` of the array are meant.
@@ -49,9 +52,10 @@ pub enum Listed {
     Refused(Refusal),
 }
 
-pub fn footprint(i: Insn, a: &[u32]) -> Touches
-    requires { ⌜ (length (now a) ≡ 32) × Bounded i ⌝ }
-    ensures { λ r. ⌜ r ≡ footprintOf i (lent (now (a .entry))) ⌝ }
+// What an instruction touches, where the registers that it names are there, as a decoded word's are.
+fn footprint(i: Insn, a: &[u32]) -> Touches
+    requires { ⌜ (length (now a) ≡ 32) × Bounded (meant i) ⌝ }
+    ensures { λ r. ⌜ r ≡ footprintOf (meant i) (lent (now (a .entry))) ⌝ }
 {
     let read = table::reads(list::empty(), i, a);
     let list = table::writes(read, i, a);
@@ -63,7 +67,7 @@ pub fn footprint(i: Insn, a: &[u32]) -> Touches
 
 // The answer to a word that is no instruction: `let .. else` cannot bind the refusal.
 fn not_swapped(d: Decoded) -> Swapping
-    ensures { λ x. ⌜ x ≡ unswapped d ⌝ }
+    ensures { λ x. ⌜ x ≡ unswapped (meantD d) ⌝ }
 {
     match d {
         Decoded::Refused(k) => Swapping::Refused(k),
@@ -72,7 +76,7 @@ fn not_swapped(d: Decoded) -> Swapping
 }
 
 fn not_listed(d: Decoded) -> Listed
-    ensures { λ x. ⌜ x ≡ unlisted d ⌝ }
+    ensures { λ x. ⌜ x ≡ unlisted (meantD d) ⌝ }
 {
     match d {
         Decoded::Refused(k) => Listed::Refused(k),
@@ -97,7 +101,7 @@ pub fn may_swap(
     ensures { λ x. ⌜ swapAnswer x
         ≡ swapOf word1 side1 mask1 word2 side2 mask2 (pieces (ds .entry) (a .entry) (r .entry) (c .entry) (vc .entry) (v .entry)) ⌝ }
 {
-    if !machine::sized(ds.len(), a.len(), r.len(), c.len(), vc.len(), v.len()) {
+    if !regs::sized(ds.len(), a.len(), r.len(), c.len(), vc.len(), v.len()) {
         return Swapping::Lengths;
     }
     let d = words::decode(word1, side1, mask1);
@@ -149,7 +153,7 @@ pub fn places(
     ensures { λ x. ⌜ listAnswer x (now (buffer .exit))
         ≡ placesOf word side mask (pieces (ds .entry) (a .entry) (r .entry) (c .entry) (vc .entry) (v .entry)) (now (buffer .entry)) ⌝ }
 {
-    if !machine::sized(ds.len(), a.len(), r.len(), c.len(), vc.len(), v.len()) {
+    if !regs::sized(ds.len(), a.len(), r.len(), c.len(), vc.len(), v.len()) {
         return Listed::Lengths;
     }
     if buffer.len() < 22 {

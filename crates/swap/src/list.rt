@@ -5,15 +5,14 @@ ghost use Prim.Native.Nat.{_<_, _+_};
 ghost use lib.ListN.{length};
 ghost use Rattle.banks.specs.Bank.{at};
 ghost use Rattle.banks.specs.Line.{countOf};
+ghost use Rattle.words.specs.Fields.{inputOf};
 ghost use Rattle.model.specs.Place.{vec, xlat};
-ghost use Rattle.model.specs.Table.{halves, halfOf, datum, increment, second, input, flagsOf, bytes, atOr};
+ghost use Rattle.model.specs.Table.{halves, halfOf, datum, increment, input, flagsOf, bytes, atOr};
 ghost use Rattle.swap.specs.Listing.{nothing, pushed, sideOf, flagOf, Room, Adds, lent};
 use crate::Listing;
 use banks::Way;
 use words::Half;
 use words::Increment;
-use words::Input;
-use words::Second;
 
 pub fn empty() -> Listing
     ensures { λ r. ⌜ r ≡ nothing ⌝ }
@@ -85,30 +84,20 @@ pub fn put_increment(l: Listing, inc: Increment) -> Listing
     ensures { λ r. ⌜ Adds l (increment inc) r ⌝ }
 {
     match inc {
-        Increment::Register(n) => put_half(l, Half::Low, n),
+        Increment::Register(n) => put_half(l, Half::Low, n as usize),
         Increment::Immediate(_) => l,
     }
 }
 
-pub fn put_second(l: Listing, s: Second) -> Listing
-    requires { ⌜ Room l (second s) ⌝ }
-    ensures { λ r. ⌜ Adds l (second s) r ⌝ }
+// The input signs of vcmpad, where the side mask word is not a valid mask.
+pub fn put_input(l: Listing, vcdst: usize, mask: u32) -> Listing
+    requires { ⌜ Room l (input vcdst (inputOf mask)) ⌝ }
+    ensures { λ r. ⌜ Adds l (input vcdst (inputOf mask)) r ⌝ }
 {
-    match s {
-        Second::Register(n) => put_vector(l, n),
-        Second::Byte(_) => l,
-        Second::Absent => l,
-    }
-}
-
-// The input signs of vcmpad.
-pub fn put_input(l: Listing, vcdst: usize, from: Input) -> Listing
-    requires { ⌜ Room l (input vcdst from) ⌝ }
-    ensures { λ r. ⌜ Adds l (input vcdst from) r ⌝ }
-{
-    match from {
-        Input::Mask(_) => l,
-        Input::Signs => push(l, 136 + 2 * (vcdst % 4)),
+    if mask < 65536 {
+        push(l, 136 + 2 * (vcdst % 4))
+    } else {
+        l
     }
 }
 

@@ -8,13 +8,13 @@ use lib.Dec.{ltb}
 use lib.ListN.{set}
 use Rattle.lanes.specs.Lanes.{Lanes}
 use Rattle.regs.specs.Regs.{vregOf, withVreg, flagsAt}
-use Rattle.words.specs.declared.Insn.the-variants as N
-use Rattle.words.specs.declared.Second.{Second}
-use Rattle.words.specs.declared.Second.the-variants.{Register, Byte, Absent}
-use Rattle.words.specs.declared.Input.{Input}
-use Rattle.words.specs.declared.Input.the-variants.{Mask, Signs}
-use Rattle.words.specs.declared.Vector.{Vector}
-use Rattle.words.specs.declared.Vector.the-variants.{Arith, Shift, Clip, Add9, MinAbs, Bitop, Logic, Cmpad, Swz, Mov, MovImm, MovFlags}
+use Rattle.words.specs.Insn as N
+use Rattle.words.specs.Second.{Second}
+use Rattle.words.specs.Second.{Register, Byte, Absent}
+use Rattle.words.specs.Input.{Input}
+use Rattle.words.specs.Input.{Mask, Signs}
+use Rattle.words.specs.Vector.{Vector}
+use Rattle.words.specs.Vector.{Arith, Shift, Clip, Add9, MinAbs, Bitop, Logic, Cmpad, Swz, Mov, MovImm, MovFlags}
 use Rattle.model.specs.State.{State, state}
 use Rattle.model.specs.Place.{xlat, halves, lo, hi, edit, upd, signs, zeros}
 use Rattle.model.specs.Prog.{Did, Done, ret, run, _>>=_, _≔_, puts, done}

@@ -1,6 +1,5 @@
 -- What a vector instruction makes of the two pieces that it changes, in one formula each. proofs/Closed.antt shows that the model says the same.
 use Prim.Native.Nat.{ℕ, _%_}
-use mathlib.Core.Bool.{Bool, true, false}
 use mathlib.Core.List.{List, [], _∷_}
 use lib.Bits.{bitOr}
 use lib.ListN.{getD, replicate}
@@ -8,15 +7,12 @@ use Rattle.lanes.specs.Lanes.{arithLanes, shiftLanes, clipLanes, add9Lanes, min
 use Rattle.lanes.specs.Lanes.{Lanes}
 use Rattle.lanes.specs.declared.Flags.{Flags}
 use Rattle.regs.specs.Regs.{vregOf, withVreg, flagsAt}
-use Rattle.words.specs.declared.Second.{Second}
-use Rattle.words.specs.declared.Second.the-variants.{Register, Byte, Absent}
-use Rattle.words.specs.declared.Input.{Input}
-use Rattle.words.specs.declared.Input.the-variants.{Mask, Signs}
-use Rattle.words.specs.declared.Answer.{Answer}
-use Rattle.words.specs.declared.Answer.the-variants.{Done, Refused}
-use Rattle.words.specs.declared.Refusal.the-variants.{SideMask}
-use Rattle.words.specs.declared.Vector.{Vector}
-use Rattle.words.specs.declared.Vector.the-variants.{Arith, Shift, Clip, Add9, MinAbs, Bitop, Logic, Cmpad, Swz, Mov, MovImm, MovFlags}
+use Rattle.words.specs.Second.{Second}
+use Rattle.words.specs.Second.{Register, Byte, Absent}
+use Rattle.words.specs.Input.{Input}
+use Rattle.words.specs.Input.{Mask, Signs}
+use Rattle.words.specs.Vector.{Vector}
+use Rattle.words.specs.Vector.{Arith, Shift, Clip, Add9, MinAbs, Bitop, Logic, Cmpad, Swz, Mov, MovImm, MovFlags}
 
 pub record Vectors : Type 0 where
   pub vc : List ℕ
@@ -57,15 +53,13 @@ vectored (MovImm o) s = lanesAt (o .dst) (o .vcdst) (movImmLanes (o .byte)) s
 vectored (MovFlags dst) s =
     vectors (s .vc) (withVreg (s .v) dst (flagBytes (getD (s .vc) 0 0 ∷ getD (s .vc) 1 0 ∷ getD (s .vc) 2 0 ∷ getD (s .vc) 3 0 ∷ [])))
 
--- what a word of the vector unit leaves: its answer and the two pieces
-pub record Answered : Type 0 where
-  pub answer : Answer
+-- what an instruction comes to: how many cells it entered, and the two pieces afterwards
+pub record Result : Type 0 where
+  pub cells : ℕ
   pub after : Vectors
 
-abbrev pub answered : Answer → Vectors → Answered
-answered x s = record { answer = x; after = s }
+abbrev pub result : ℕ → Vectors → Result
+result n s = record { cells = n; after = s }
 
--- done, or refused for its side mask word: then nothing is changed
-unfoldable pub answerOf : Bool → Vector → Vectors → Answered
-answerOf true i s = answered (Done 0) (vectored i s)
-answerOf false i s = answered (Refused SideMask) s
+unfoldable pub resultOf : Vector → Vectors → Result
+resultOf i s = result 0 (vectored i s)

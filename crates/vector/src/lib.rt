@@ -1,10 +1,9 @@
 // The vector unit's instructions, on the two pieces that it changes: sources are read into values first, then the result is written.
-// They take the word itself, so that only the fields that an instruction uses are cut from it. None of them but vcmpad is ever refused.
+// Each takes the word, so that only the fields that it uses are cut from it, and hands back how many cells it entered: none.
 ghost use mathlib.Core.Path.{_≡_};
 ghost use mathlib.Core.Bool.{true, false};
 ghost use mathlib.Core.List.{[]};
 ghost use Prim.Native.Nat.{_<_};
-ghost use lib.Dec.{ltb};
 ghost use lib.ListN.{length};
 ghost use Rattle.lanes.specs.Marks.{zerosOf, topsOf, marked};
 ghost use Rattle.regs.specs.Regs.{flagsAt};
@@ -12,21 +11,20 @@ ghost use Rattle.lanes.specs.declared.Calc.the-variants.{Min, Max, Abs, Neg, Ad
 ghost use Rattle.lanes.specs.declared.Logic.the-variants.{And, Xor, Or};
 ghost use Rattle.words.specs.Fields as F;
 ghost use Rattle.words.specs.Fields.{fieldsOf};
+ghost use Rattle.words.specs.Meant.{secondBy};
 ghost use Rattle.words.specs.Table.{arithOf, shiftOf, clipOf, add9Of, minAbsOf, vbitopOf, logicOf, cmpadOf, swzOf, movOf, movImmOf, movFlagsOf};
-ghost use Rattle.words.specs.declared.Second.the-variants.{Absent};
-ghost use Rattle.words.specs.declared.Answer.the-variants.{Done};
-ghost use Rattle.vector.specs.Effect.{vectors, secondOf, inputOf, lanesAt, vectored, answered, answerOf};
+ghost use Rattle.words.specs.Second.{Register, Absent};
+ghost use Rattle.vector.specs.Effect.{vectors, secondOf, inputOf, lanesAt, vectored, result, resultOf};
 use lanes::Marks;
-use words::Answer;
 use words::Fields;
-use words::Refusal;
 
 // Source 2, as one value: BIMM in each component, or the register SRC2.
-fn second_of(f: Fields, byte: bool, v: &[u8]) -> [u8; 16]
-    requires { ⌜ (length (now v) ≡ 512) × (f .src2 < 32) ⌝ }
-    ensures { λ r. ⌜ r ≡ secondOf (F.secondOf f byte) (now (v .entry)) ⌝ }
+fn second_of(word: u32, v: &[u8]) -> [u8; 16]
+    requires { ⌜ length (now v) ≡ 512 ⌝ }
+    ensures { λ r. ⌜ r ≡ secondOf (secondBy word) (now (v .entry)) ⌝ }
 {
-    if byte {
+    let f = words::cut(word);
+    if words::by_byte(word) {
         lanes::splat(f.byte)
     } else {
         regs::vreg(v, f.src2)
@@ -51,256 +49,255 @@ fn pack(tested: [u8; 16], tops: [u8; 16], vcdst: usize, vc: &mut [u32])
     ensures { λ _. ⌜ now (vc .exit) ≡ flagsAt vcdst (topsOf tops) (zerosOf tested) (now (vc .entry)) ⌝ }
 {
     if vcdst < 4 {
-        let bits = lanes::packed::weights();
-        vc[vcdst] = lanes::packed::weighed(tested, tops, bits);
+        vc[vcdst] = lanes::packed::flags(tested, tops);
     }
 }
 
 // A result to $v[DST], its flags to $vc[VCDST].
-fn put(m: Marks, dst: usize, vcdst: usize, vc: &mut [u32], v: &mut [u8]) -> Answer
+fn put(m: Marks, dst: usize, vcdst: usize, vc: &mut [u32], v: &mut [u8]) -> u64
     requires { ⌜ (length (now vc) ≡ 4) × (length (now v) ≡ 512) × (dst < 32) ⌝ }
-    ensures { λ x. ⌜ answered x (vectors (now (vc .exit)) (now (v .exit))) ≡ answered (Done 0) (lanesAt dst vcdst (marked m) (vectors (now (vc .entry)) (now (v .entry)))) ⌝ }
+    ensures { λ n. ⌜ result n (vectors (now (vc .exit)) (now (v .exit))) ≡ result 0 (lanesAt dst vcdst (marked m) (vectors (now (vc .entry)) (now (v .entry)))) ⌝ }
 {
     let bytes = m.bytes;
     let tested = m.tested;
     let tops = m.tops;
     regs::set_vreg(v, dst, bytes);
     pack(tested, tops, vcdst, vc);
-    Answer::Done(0)
+    0
 }
 
-pub fn min_signed(word: u32, byte: bool, vc: &mut [u32], v: &mut [u8]) -> Answer
+pub fn vmin_s(word: u32, vc: &mut [u32], v: &mut [u8]) -> u64
     requires { ⌜ (length (now vc) ≡ 4) × (length (now v) ≡ 512) ⌝ }
-    ensures { λ x. ⌜ answered x (vectors (now (vc .exit)) (now (v .exit))) ≡ answerOf true (arithOf (fieldsOf word) Min true (F.secondOf (fieldsOf word) byte)) (vectors (now (vc .entry)) (now (v .entry))) ⌝ }
+    ensures { λ n. ⌜ result n (vectors (now (vc .exit)) (now (v .exit))) ≡ resultOf (arithOf (fieldsOf word) Min true (secondBy word)) (vectors (now (vc .entry)) (now (v .entry))) ⌝ }
 {
     let f = words::cut(word);
     let a = regs::vreg(v, f.src1);
-    let b = second_of(f, byte, v);
-    put(lanes::arithmetic::min_signed(a, b), f.dst, f.flags, vc, v)
+    let b = second_of(word, v);
+    put(lanes::arithmetic::vmin_s(a, b), f.dst, f.flags, vc, v)
 }
 
-pub fn max_signed(word: u32, byte: bool, vc: &mut [u32], v: &mut [u8]) -> Answer
+pub fn vmax_s(word: u32, vc: &mut [u32], v: &mut [u8]) -> u64
     requires { ⌜ (length (now vc) ≡ 4) × (length (now v) ≡ 512) ⌝ }
-    ensures { λ x. ⌜ answered x (vectors (now (vc .exit)) (now (v .exit))) ≡ answerOf true (arithOf (fieldsOf word) Max true (F.secondOf (fieldsOf word) byte)) (vectors (now (vc .entry)) (now (v .entry))) ⌝ }
+    ensures { λ n. ⌜ result n (vectors (now (vc .exit)) (now (v .exit))) ≡ resultOf (arithOf (fieldsOf word) Max true (secondBy word)) (vectors (now (vc .entry)) (now (v .entry))) ⌝ }
 {
     let f = words::cut(word);
     let a = regs::vreg(v, f.src1);
-    let b = second_of(f, byte, v);
-    put(lanes::arithmetic::max_signed(a, b), f.dst, f.flags, vc, v)
+    let b = second_of(word, v);
+    put(lanes::arithmetic::vmax_s(a, b), f.dst, f.flags, vc, v)
 }
 
-pub fn add_signed(word: u32, byte: bool, vc: &mut [u32], v: &mut [u8]) -> Answer
+pub fn vadd_s(word: u32, vc: &mut [u32], v: &mut [u8]) -> u64
     requires { ⌜ (length (now vc) ≡ 4) × (length (now v) ≡ 512) ⌝ }
-    ensures { λ x. ⌜ answered x (vectors (now (vc .exit)) (now (v .exit))) ≡ answerOf true (arithOf (fieldsOf word) Add true (F.secondOf (fieldsOf word) byte)) (vectors (now (vc .entry)) (now (v .entry))) ⌝ }
+    ensures { λ n. ⌜ result n (vectors (now (vc .exit)) (now (v .exit))) ≡ resultOf (arithOf (fieldsOf word) Add true (secondBy word)) (vectors (now (vc .entry)) (now (v .entry))) ⌝ }
 {
     let f = words::cut(word);
     let a = regs::vreg(v, f.src1);
-    let b = second_of(f, byte, v);
-    put(lanes::arithmetic::add_signed(a, b), f.dst, f.flags, vc, v)
+    let b = second_of(word, v);
+    put(lanes::arithmetic::vadd_s(a, b), f.dst, f.flags, vc, v)
 }
 
-pub fn sub_signed(word: u32, byte: bool, vc: &mut [u32], v: &mut [u8]) -> Answer
+pub fn vsub_s(word: u32, vc: &mut [u32], v: &mut [u8]) -> u64
     requires { ⌜ (length (now vc) ≡ 4) × (length (now v) ≡ 512) ⌝ }
-    ensures { λ x. ⌜ answered x (vectors (now (vc .exit)) (now (v .exit))) ≡ answerOf true (arithOf (fieldsOf word) Sub true (F.secondOf (fieldsOf word) byte)) (vectors (now (vc .entry)) (now (v .entry))) ⌝ }
+    ensures { λ n. ⌜ result n (vectors (now (vc .exit)) (now (v .exit))) ≡ resultOf (arithOf (fieldsOf word) Sub true (Register (fieldsOf word .src2))) (vectors (now (vc .entry)) (now (v .entry))) ⌝ }
 {
     let f = words::cut(word);
     let a = regs::vreg(v, f.src1);
-    let b = second_of(f, byte, v);
-    put(lanes::arithmetic::sub_signed(a, b), f.dst, f.flags, vc, v)
+    let b = regs::vreg(v, f.src2);
+    put(lanes::arithmetic::vsub_s(a, b), f.dst, f.flags, vc, v)
 }
 
-pub fn min_unsigned(word: u32, byte: bool, vc: &mut [u32], v: &mut [u8]) -> Answer
+pub fn vmin_u(word: u32, vc: &mut [u32], v: &mut [u8]) -> u64
     requires { ⌜ (length (now vc) ≡ 4) × (length (now v) ≡ 512) ⌝ }
-    ensures { λ x. ⌜ answered x (vectors (now (vc .exit)) (now (v .exit))) ≡ answerOf true (arithOf (fieldsOf word) Min false (F.secondOf (fieldsOf word) byte)) (vectors (now (vc .entry)) (now (v .entry))) ⌝ }
+    ensures { λ n. ⌜ result n (vectors (now (vc .exit)) (now (v .exit))) ≡ resultOf (arithOf (fieldsOf word) Min false (secondBy word)) (vectors (now (vc .entry)) (now (v .entry))) ⌝ }
 {
     let f = words::cut(word);
     let a = regs::vreg(v, f.src1);
-    let b = second_of(f, byte, v);
-    put(lanes::arithmetic::min_unsigned(a, b), f.dst, f.flags, vc, v)
+    let b = second_of(word, v);
+    put(lanes::arithmetic::vmin_u(a, b), f.dst, f.flags, vc, v)
 }
 
-pub fn max_unsigned(word: u32, byte: bool, vc: &mut [u32], v: &mut [u8]) -> Answer
+pub fn vmax_u(word: u32, vc: &mut [u32], v: &mut [u8]) -> u64
     requires { ⌜ (length (now vc) ≡ 4) × (length (now v) ≡ 512) ⌝ }
-    ensures { λ x. ⌜ answered x (vectors (now (vc .exit)) (now (v .exit))) ≡ answerOf true (arithOf (fieldsOf word) Max false (F.secondOf (fieldsOf word) byte)) (vectors (now (vc .entry)) (now (v .entry))) ⌝ }
+    ensures { λ n. ⌜ result n (vectors (now (vc .exit)) (now (v .exit))) ≡ resultOf (arithOf (fieldsOf word) Max false (secondBy word)) (vectors (now (vc .entry)) (now (v .entry))) ⌝ }
 {
     let f = words::cut(word);
     let a = regs::vreg(v, f.src1);
-    let b = second_of(f, byte, v);
-    put(lanes::arithmetic::max_unsigned(a, b), f.dst, f.flags, vc, v)
+    let b = second_of(word, v);
+    put(lanes::arithmetic::vmax_u(a, b), f.dst, f.flags, vc, v)
 }
 
-pub fn add_unsigned(word: u32, byte: bool, vc: &mut [u32], v: &mut [u8]) -> Answer
+pub fn vadd_u(word: u32, vc: &mut [u32], v: &mut [u8]) -> u64
     requires { ⌜ (length (now vc) ≡ 4) × (length (now v) ≡ 512) ⌝ }
-    ensures { λ x. ⌜ answered x (vectors (now (vc .exit)) (now (v .exit))) ≡ answerOf true (arithOf (fieldsOf word) Add false (F.secondOf (fieldsOf word) byte)) (vectors (now (vc .entry)) (now (v .entry))) ⌝ }
+    ensures { λ n. ⌜ result n (vectors (now (vc .exit)) (now (v .exit))) ≡ resultOf (arithOf (fieldsOf word) Add false (secondBy word)) (vectors (now (vc .entry)) (now (v .entry))) ⌝ }
 {
     let f = words::cut(word);
     let a = regs::vreg(v, f.src1);
-    let b = second_of(f, byte, v);
-    put(lanes::arithmetic::add_unsigned(a, b), f.dst, f.flags, vc, v)
+    let b = second_of(word, v);
+    put(lanes::arithmetic::vadd_u(a, b), f.dst, f.flags, vc, v)
 }
 
-pub fn sub_unsigned(word: u32, byte: bool, vc: &mut [u32], v: &mut [u8]) -> Answer
+pub fn vsub_u(word: u32, vc: &mut [u32], v: &mut [u8]) -> u64
     requires { ⌜ (length (now vc) ≡ 4) × (length (now v) ≡ 512) ⌝ }
-    ensures { λ x. ⌜ answered x (vectors (now (vc .exit)) (now (v .exit))) ≡ answerOf true (arithOf (fieldsOf word) Sub false (F.secondOf (fieldsOf word) byte)) (vectors (now (vc .entry)) (now (v .entry))) ⌝ }
+    ensures { λ n. ⌜ result n (vectors (now (vc .exit)) (now (v .exit))) ≡ resultOf (arithOf (fieldsOf word) Sub false (secondBy word)) (vectors (now (vc .entry)) (now (v .entry))) ⌝ }
 {
     let f = words::cut(word);
     let a = regs::vreg(v, f.src1);
-    let b = second_of(f, byte, v);
-    put(lanes::arithmetic::sub_unsigned(a, b), f.dst, f.flags, vc, v)
+    let b = second_of(word, v);
+    put(lanes::arithmetic::vsub_u(a, b), f.dst, f.flags, vc, v)
 }
 
-pub fn abs_signed(word: u32, vc: &mut [u32], v: &mut [u8]) -> Answer
+pub fn vabs_s(word: u32, vc: &mut [u32], v: &mut [u8]) -> u64
     requires { ⌜ (length (now vc) ≡ 4) × (length (now v) ≡ 512) ⌝ }
-    ensures { λ x. ⌜ answered x (vectors (now (vc .exit)) (now (v .exit))) ≡ answerOf true (arithOf (fieldsOf word) Abs true Absent) (vectors (now (vc .entry)) (now (v .entry))) ⌝ }
+    ensures { λ n. ⌜ result n (vectors (now (vc .exit)) (now (v .exit))) ≡ resultOf (arithOf (fieldsOf word) Abs true Absent) (vectors (now (vc .entry)) (now (v .entry))) ⌝ }
 {
     let f = words::cut(word);
     let a = regs::vreg(v, f.src1);
-    put(lanes::arithmetic::abs_signed(a), f.dst, f.flags, vc, v)
+    put(lanes::arithmetic::vabs_s(a), f.dst, f.flags, vc, v)
 }
 
-pub fn neg_signed(word: u32, vc: &mut [u32], v: &mut [u8]) -> Answer
+pub fn vneg_s(word: u32, vc: &mut [u32], v: &mut [u8]) -> u64
     requires { ⌜ (length (now vc) ≡ 4) × (length (now v) ≡ 512) ⌝ }
-    ensures { λ x. ⌜ answered x (vectors (now (vc .exit)) (now (v .exit))) ≡ answerOf true (arithOf (fieldsOf word) Neg true Absent) (vectors (now (vc .entry)) (now (v .entry))) ⌝ }
+    ensures { λ n. ⌜ result n (vectors (now (vc .exit)) (now (v .exit))) ≡ resultOf (arithOf (fieldsOf word) Neg true Absent) (vectors (now (vc .entry)) (now (v .entry))) ⌝ }
 {
     let f = words::cut(word);
     let a = regs::vreg(v, f.src1);
-    put(lanes::arithmetic::neg_signed(a), f.dst, f.flags, vc, v)
+    put(lanes::arithmetic::vneg_s(a), f.dst, f.flags, vc, v)
 }
 
-pub fn abs_unsigned(word: u32, vc: &mut [u32], v: &mut [u8]) -> Answer
+pub fn vabs_u(word: u32, vc: &mut [u32], v: &mut [u8]) -> u64
     requires { ⌜ (length (now vc) ≡ 4) × (length (now v) ≡ 512) ⌝ }
-    ensures { λ x. ⌜ answered x (vectors (now (vc .exit)) (now (v .exit))) ≡ answerOf true (arithOf (fieldsOf word) Abs false Absent) (vectors (now (vc .entry)) (now (v .entry))) ⌝ }
+    ensures { λ n. ⌜ result n (vectors (now (vc .exit)) (now (v .exit))) ≡ resultOf (arithOf (fieldsOf word) Abs false Absent) (vectors (now (vc .entry)) (now (v .entry))) ⌝ }
 {
     let f = words::cut(word);
     let a = regs::vreg(v, f.src1);
-    put(lanes::arithmetic::abs_unsigned(a), f.dst, f.flags, vc, v)
+    put(lanes::arithmetic::vabs_u(a), f.dst, f.flags, vc, v)
 }
 
-pub fn sar(word: u32, byte: bool, vc: &mut [u32], v: &mut [u8]) -> Answer
+pub fn vsar(word: u32, vc: &mut [u32], v: &mut [u8]) -> u64
     requires { ⌜ (length (now vc) ≡ 4) × (length (now v) ≡ 512) ⌝ }
-    ensures { λ x. ⌜ answered x (vectors (now (vc .exit)) (now (v .exit))) ≡ answerOf true (shiftOf (fieldsOf word) true (F.secondOf (fieldsOf word) byte)) (vectors (now (vc .entry)) (now (v .entry))) ⌝ }
+    ensures { λ n. ⌜ result n (vectors (now (vc .exit)) (now (v .exit))) ≡ resultOf (shiftOf (fieldsOf word) true (secondBy word)) (vectors (now (vc .entry)) (now (v .entry))) ⌝ }
 {
     let f = words::cut(word);
     let a = regs::vreg(v, f.src1);
-    let b = second_of(f, byte, v);
-    put(lanes::shifts::sar(a, b), f.dst, f.flags, vc, v)
+    let b = second_of(word, v);
+    put(lanes::shifts::vsar(a, b), f.dst, f.flags, vc, v)
 }
 
-pub fn shr(word: u32, byte: bool, vc: &mut [u32], v: &mut [u8]) -> Answer
+pub fn vshr(word: u32, vc: &mut [u32], v: &mut [u8]) -> u64
     requires { ⌜ (length (now vc) ≡ 4) × (length (now v) ≡ 512) ⌝ }
-    ensures { λ x. ⌜ answered x (vectors (now (vc .exit)) (now (v .exit))) ≡ answerOf true (shiftOf (fieldsOf word) false (F.secondOf (fieldsOf word) byte)) (vectors (now (vc .entry)) (now (v .entry))) ⌝ }
+    ensures { λ n. ⌜ result n (vectors (now (vc .exit)) (now (v .exit))) ≡ resultOf (shiftOf (fieldsOf word) false (secondBy word)) (vectors (now (vc .entry)) (now (v .entry))) ⌝ }
 {
     let f = words::cut(word);
     let a = regs::vreg(v, f.src1);
-    let b = second_of(f, byte, v);
-    put(lanes::shifts::shr(a, b), f.dst, f.flags, vc, v)
+    let b = second_of(word, v);
+    put(lanes::shifts::vshr(a, b), f.dst, f.flags, vc, v)
 }
 
-pub fn clip(word: u32, vc: &mut [u32], v: &mut [u8]) -> Answer
+pub fn vclip(word: u32, vc: &mut [u32], v: &mut [u8]) -> u64
     requires { ⌜ (length (now vc) ≡ 4) × (length (now v) ≡ 512) ⌝ }
-    ensures { λ x. ⌜ answered x (vectors (now (vc .exit)) (now (v .exit))) ≡ answerOf true (clipOf (fieldsOf word)) (vectors (now (vc .entry)) (now (v .entry))) ⌝ }
+    ensures { λ n. ⌜ result n (vectors (now (vc .exit)) (now (v .exit))) ≡ resultOf (clipOf (fieldsOf word)) (vectors (now (vc .entry)) (now (v .entry))) ⌝ }
 {
     let f = words::cut(word);
     let a = regs::vreg(v, f.src1);
     let b = regs::vreg(v, f.src2);
     let c = regs::vreg(v, f.src3);
-    put(lanes::clamp::clip(a, b, c), f.dst, f.flags, vc, v)
+    put(lanes::clamp::vclip(a, b, c), f.dst, f.flags, vc, v)
 }
 
-pub fn add9(word: u32, vc: &mut [u32], v: &mut [u8]) -> Answer
+pub fn vadd9(word: u32, vc: &mut [u32], v: &mut [u8]) -> u64
     requires { ⌜ (length (now vc) ≡ 4) × (length (now v) ≡ 512) ⌝ }
-    ensures { λ x. ⌜ answered x (vectors (now (vc .exit)) (now (v .exit))) ≡ answerOf true (add9Of (fieldsOf word)) (vectors (now (vc .entry)) (now (v .entry))) ⌝ }
+    ensures { λ n. ⌜ result n (vectors (now (vc .exit)) (now (v .exit))) ≡ resultOf (add9Of (fieldsOf word)) (vectors (now (vc .entry)) (now (v .entry))) ⌝ }
 {
     let f = words::cut(word);
     let a = regs::vreg(v, f.src1);
     let b = regs::vreg(v, f.src2);
     let c = regs::vreg(v, f.src3);
-    put(lanes::nine::add9(a, b, c), f.dst, f.flags, vc, v)
+    put(lanes::nine::vadd9(a, b, c), f.dst, f.flags, vc, v)
 }
 
-pub fn min_abs(word: u32, vc: &mut [u32], v: &mut [u8]) -> Answer
+pub fn vminabs(word: u32, vc: &mut [u32], v: &mut [u8]) -> u64
     requires { ⌜ (length (now vc) ≡ 4) × (length (now v) ≡ 512) ⌝ }
-    ensures { λ x. ⌜ answered x (vectors (now (vc .exit)) (now (v .exit))) ≡ answerOf true (minAbsOf (fieldsOf word)) (vectors (now (vc .entry)) (now (v .entry))) ⌝ }
+    ensures { λ n. ⌜ result n (vectors (now (vc .exit)) (now (v .exit))) ≡ resultOf (minAbsOf (fieldsOf word)) (vectors (now (vc .entry)) (now (v .entry))) ⌝ }
 {
     let f = words::cut(word);
     let a = regs::vreg(v, f.src1);
     let b = regs::vreg(v, f.src2);
-    put(lanes::clamp::min_abs(a, b), f.dst, f.flags, vc, v)
+    put(lanes::clamp::vminabs(a, b), f.dst, f.flags, vc, v)
 }
 
-pub fn bitop(word: u32, vc: &mut [u32], v: &mut [u8]) -> Answer
+pub fn vbitop(word: u32, vc: &mut [u32], v: &mut [u8]) -> u64
     requires { ⌜ (length (now vc) ≡ 4) × (length (now v) ≡ 512) ⌝ }
-    ensures { λ x. ⌜ answered x (vectors (now (vc .exit)) (now (v .exit))) ≡ answerOf true (vbitopOf (fieldsOf word)) (vectors (now (vc .entry)) (now (v .entry))) ⌝ }
+    ensures { λ n. ⌜ result n (vectors (now (vc .exit)) (now (v .exit))) ≡ resultOf (vbitopOf (fieldsOf word)) (vectors (now (vc .entry)) (now (v .entry))) ⌝ }
 {
     let f = words::cut(word);
     let a = regs::vreg(v, f.src1);
     let b = regs::vreg(v, f.src2);
-    put(lanes::bitwise::bitop(f.bitop, a, b), f.dst, f.flags, vc, v)
+    put(lanes::bitwise::vbitop(f.bitop, a, b), f.dst, f.flags, vc, v)
 }
 
-pub fn ands(word: u32, vc: &mut [u32], v: &mut [u8]) -> Answer
+pub fn vand(word: u32, vc: &mut [u32], v: &mut [u8]) -> u64
     requires { ⌜ (length (now vc) ≡ 4) × (length (now v) ≡ 512) ⌝ }
-    ensures { λ x. ⌜ answered x (vectors (now (vc .exit)) (now (v .exit))) ≡ answerOf true (logicOf (fieldsOf word) And) (vectors (now (vc .entry)) (now (v .entry))) ⌝ }
+    ensures { λ n. ⌜ result n (vectors (now (vc .exit)) (now (v .exit))) ≡ resultOf (logicOf (fieldsOf word) And) (vectors (now (vc .entry)) (now (v .entry))) ⌝ }
 {
     let f = words::cut(word);
     let a = regs::vreg(v, f.src1);
-    put(lanes::bitwise::ands(a, f.byte), f.dst, f.flags, vc, v)
+    put(lanes::bitwise::vand(a, f.byte), f.dst, f.flags, vc, v)
 }
 
-pub fn xors(word: u32, vc: &mut [u32], v: &mut [u8]) -> Answer
+pub fn vxor(word: u32, vc: &mut [u32], v: &mut [u8]) -> u64
     requires { ⌜ (length (now vc) ≡ 4) × (length (now v) ≡ 512) ⌝ }
-    ensures { λ x. ⌜ answered x (vectors (now (vc .exit)) (now (v .exit))) ≡ answerOf true (logicOf (fieldsOf word) Xor) (vectors (now (vc .entry)) (now (v .entry))) ⌝ }
+    ensures { λ n. ⌜ result n (vectors (now (vc .exit)) (now (v .exit))) ≡ resultOf (logicOf (fieldsOf word) Xor) (vectors (now (vc .entry)) (now (v .entry))) ⌝ }
 {
     let f = words::cut(word);
     let a = regs::vreg(v, f.src1);
-    put(lanes::bitwise::xors(a, f.byte), f.dst, f.flags, vc, v)
+    put(lanes::bitwise::vxor(a, f.byte), f.dst, f.flags, vc, v)
 }
 
-pub fn ors(word: u32, vc: &mut [u32], v: &mut [u8]) -> Answer
+pub fn vor(word: u32, vc: &mut [u32], v: &mut [u8]) -> u64
     requires { ⌜ (length (now vc) ≡ 4) × (length (now v) ≡ 512) ⌝ }
-    ensures { λ x. ⌜ answered x (vectors (now (vc .exit)) (now (v .exit))) ≡ answerOf true (logicOf (fieldsOf word) Or) (vectors (now (vc .entry)) (now (v .entry))) ⌝ }
+    ensures { λ n. ⌜ result n (vectors (now (vc .exit)) (now (v .exit))) ≡ resultOf (logicOf (fieldsOf word) Or) (vectors (now (vc .entry)) (now (v .entry))) ⌝ }
 {
     let f = words::cut(word);
     let a = regs::vreg(v, f.src1);
-    put(lanes::bitwise::ors(a, f.byte), f.dst, f.flags, vc, v)
+    put(lanes::bitwise::vor(a, f.byte), f.dst, f.flags, vc, v)
 }
 
-pub fn mov(word: u32, vc: &mut [u32], v: &mut [u8]) -> Answer
+pub fn mov(word: u32, vc: &mut [u32], v: &mut [u8]) -> u64
     requires { ⌜ (length (now vc) ≡ 4) × (length (now v) ≡ 512) ⌝ }
-    ensures { λ x. ⌜ answered x (vectors (now (vc .exit)) (now (v .exit))) ≡ answerOf true (movOf (fieldsOf word)) (vectors (now (vc .entry)) (now (v .entry))) ⌝ }
+    ensures { λ n. ⌜ result n (vectors (now (vc .exit)) (now (v .exit))) ≡ resultOf (movOf (fieldsOf word)) (vectors (now (vc .entry)) (now (v .entry))) ⌝ }
 {
     let f = words::cut(word);
     let a = regs::vreg(v, f.src1);
     put(lanes::bitwise::mov(a), f.dst, f.flags, vc, v)
 }
 
-pub fn mov_imm(word: u32, vc: &mut [u32], v: &mut [u8]) -> Answer
+pub fn vmov(word: u32, vc: &mut [u32], v: &mut [u8]) -> u64
     requires { ⌜ (length (now vc) ≡ 4) × (length (now v) ≡ 512) ⌝ }
-    ensures { λ x. ⌜ answered x (vectors (now (vc .exit)) (now (v .exit))) ≡ answerOf true (movImmOf (fieldsOf word)) (vectors (now (vc .entry)) (now (v .entry))) ⌝ }
+    ensures { λ n. ⌜ result n (vectors (now (vc .exit)) (now (v .exit))) ≡ resultOf (movImmOf (fieldsOf word)) (vectors (now (vc .entry)) (now (v .entry))) ⌝ }
 {
     let f = words::cut(word);
-    put(lanes::bitwise::mov_imm(f.byte), f.dst, f.flags, vc, v)
+    put(lanes::bitwise::vmov(f.byte), f.dst, f.flags, vc, v)
 }
 
-pub fn mov_flags(word: u32, vc: &[u32], v: &mut [u8]) -> Answer
+pub fn mov_vc(word: u32, vc: &[u32], v: &mut [u8]) -> u64
     requires { ⌜ (length (now vc) ≡ 4) × (length (now v) ≡ 512) ⌝ }
-    ensures { λ x. ⌜ answered x (vectors (now (vc .entry)) (now (v .exit))) ≡ answerOf true (movFlagsOf (fieldsOf word)) (vectors (now (vc .entry)) (now (v .entry))) ⌝ }
+    ensures { λ n. ⌜ result n (vectors (now (vc .entry)) (now (v .exit))) ≡ resultOf (movFlagsOf (fieldsOf word)) (vectors (now (vc .entry)) (now (v .entry))) ⌝ }
 {
     let f = words::cut(word);
-    regs::set_vreg(v, f.dst, lanes::flag_bytes(vc[0], vc[1], vc[2], vc[3]));
-    Answer::Done(0)
+    regs::set_vreg(v, f.dst, lanes::mov_vc(vc[0], vc[1], vc[2], vc[3]));
+    0
 }
 
-pub fn swz(word: u32, v: &mut [u8]) -> Answer
+pub fn vswz(word: u32, v: &mut [u8]) -> u64
     requires { ⌜ length (now v) ≡ 512 ⌝ }
-    ensures { λ x. ⌜ answered x (vectors [] (now (v .exit))) ≡ answerOf true (swzOf (fieldsOf word)) (vectors [] (now (v .entry))) ⌝ }
+    ensures { λ n. ⌜ result n (vectors [] (now (v .exit))) ≡ resultOf (swzOf (fieldsOf word)) (vectors [] (now (v .entry))) ⌝ }
 {
     let f = words::cut(word);
     let a = regs::vreg(v, f.src1);
     let b = regs::vreg(v, f.src2);
     let sel = regs::vreg(v, f.src3);
-    regs::set_vreg(v, f.dst, lanes::shuffle::swizzle(f.hi, a, b, sel));
-    Answer::Done(0)
+    regs::set_vreg(v, f.dst, lanes::shuffle::vswz(f.hi, a, b, sel));
+    0
 }
 
 // Source 1 names a pair of registers: the odd one holds what the distances are compared with. Where there is no $vc[VCDST] nothing is written.
@@ -313,19 +310,16 @@ fn compared(f: Fields, mask: u32, vc: &mut [u32], v: &[u8])
         let a = regs::vreg(v, f.src1);
         let b = regs::vreg(v, f.src2);
         let input = input_of(f.flags, mask, vc);
-        let x = lanes::compare::cmpad(f.cmpop, input, a, other, b);
+        let x = lanes::compare::vcmpad(f.cmpop, input, a, other, b);
         regs::set_flags(vc, f.flags, x.signs, x.zeros);
     }
 }
 
-pub fn cmpad(word: u32, mask: u32, vc: &mut [u32], v: &[u8]) -> Answer
+pub fn vcmpad(word: u32, mask: u32, vc: &mut [u32], v: &[u8]) -> u64
     requires { ⌜ (length (now vc) ≡ 4) × (length (now v) ≡ 512) ⌝ }
-    ensures { λ x. ⌜ answered x (vectors (now (vc .exit)) (now (v .entry))) ≡ answerOf (ltb mask 131072) (cmpadOf (fieldsOf word) mask) (vectors (now (vc .entry)) (now (v .entry))) ⌝ }
+    ensures { λ n. ⌜ result n (vectors (now (vc .exit)) (now (v .entry))) ≡ resultOf (cmpadOf (fieldsOf word) mask) (vectors (now (vc .entry)) (now (v .entry))) ⌝ }
 {
-    if 131071 < mask {
-        return Answer::Refused(Refusal::SideMask);
-    }
     let f = words::cut(word);
     compared(f, mask, vc, v);
-    Answer::Done(0)
+    0
 }

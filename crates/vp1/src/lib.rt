@@ -1,25 +1,11 @@
 // The machine for C: an answer as document 01's number, the counts through pointers. include/vp1.h declares the functions.
 ghost use mathlib.Core.Path.{_≡_};
 ghost use Rattle.model.specs.State.{pieces};
-ghost use Rattle.model.specs.Step.{outcome, refusal, stepOf};
+ghost use Rattle.model.specs.Step.{outcome, stepOf};
 ghost use Rattle.model.specs.Run.{ended, runOf};
 ghost use Rattle.machine.specs.Answers.{numberOf, accessesOf, endNumber};
 use machine::End;
 use machine::Stepped;
-use words::Refusal;
-
-pub mod pairs; // pairs.rt: which places a triple touches, and whether two may be swapped
-
-fn refusal_number(k: Refusal) -> u32
-    ensures { λ n. ⌜ n ≡ refusal k ⌝ }
-{
-    match k {
-        Refusal::Foreign => 1,
-        Refusal::Undocumented => 2,
-        Refusal::SideIndex => 3,
-        Refusal::SideMask => 4,
-    }
-}
 
 fn step_number(x: Stepped) -> u32
     ensures { λ n. ⌜ n ≡ numberOf x ⌝ }
@@ -27,7 +13,7 @@ fn step_number(x: Stepped) -> u32
     match x {
         Stepped::Done(_) => 0,
         Stepped::Lengths => 5,
-        Stepped::Refused(k) => refusal_number(k),
+        Stepped::Refused(k) => regs::refusal_number(k),
     }
 }
 
@@ -48,7 +34,7 @@ fn end_number(x: End) -> u32
         End::All => 0,
         End::Lengths => 5,
         End::Ragged => 6,
-        End::Refused(k) => refusal_number(k),
+        End::Refused(k) => regs::refusal_number(k),
         End::Spent => 7,
     }
 }

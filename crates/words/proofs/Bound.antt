@@ -12,8 +12,8 @@ use Rattle.words.specs.Bounded.{BoundedA, BoundedV, BoundedD}
 use Rattle.words.specs.Table.{rows, decodeAt, decodeOf, none}
 use Rattle.words.specs.declared.Refusal.the-variants.{Foreign}
 use Rattle.words.specs.declared.Fields.{Fields}
-use Rattle.words.specs.declared.Decoded.{Decoded}
-use Rattle.words.specs.declared.Decoded.the-variants as D
+use Rattle.words.specs.Decoded.{Decoded}
+use Rattle.words.specs.Decoded as D
 
 abbrev All : List Decoded → Type 0
 All [] = Unit {0}

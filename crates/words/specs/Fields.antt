@@ -4,10 +4,10 @@ use mathlib.Core.Bool.{Bool, cond}
 use lib.Dec.{ltb, eqb}
 use lib.IntN.{ℤ, pos, _-ℤ_}
 use Rattle.words.specs.declared.Fields.{Fields}
-use Rattle.words.specs.declared.Second.{Second}
-use Rattle.words.specs.declared.Second.the-variants as S
-use Rattle.words.specs.declared.Input.{Input}
-use Rattle.words.specs.declared.Input.the-variants as I
+use Rattle.words.specs.Second.{Second}
+use Rattle.words.specs.Second as S
+use Rattle.words.specs.Input.{Input}
+use Rattle.words.specs.Input as I
 
 -- UIMM: bits 3 to 13, 0 to 2,047
 abbrev pub uimmOf : ℕ → ℕ

@@ -16,17 +16,16 @@ use Rattle.words.specs.declared.Half.{Half}
 use Rattle.words.specs.declared.Half.the-variants.{Low, High}
 use Rattle.words.specs.declared.Increment.{Increment}
 use Rattle.words.specs.declared.Increment.the-variants as I
-use Rattle.words.specs.declared.Second.{Second}
-use Rattle.words.specs.declared.Second.the-variants as S
-use Rattle.words.specs.declared.Refusal.{Refusal}
+use Rattle.words.specs.Second.{Second}
+use Rattle.words.specs.Second as S
 use Rattle.words.specs.declared.Refusal.the-variants.{Foreign, Undocumented, SideIndex, SideMask}
-use Rattle.words.specs.declared.Address.{Address}
-use Rattle.words.specs.declared.Address.the-variants as A
-use Rattle.words.specs.declared.Vector.{Vector}
-use Rattle.words.specs.declared.Vector.the-variants as W
-use Rattle.words.specs.declared.Insn.the-variants as N
-use Rattle.words.specs.declared.Decoded.{Decoded}
-use Rattle.words.specs.declared.Decoded.the-variants as D
+use Rattle.words.specs.Address.{Address}
+use Rattle.words.specs.Address as A
+use Rattle.words.specs.Vector.{Vector}
+use Rattle.words.specs.Vector as W
+use Rattle.words.specs.Insn as N
+use Rattle.words.specs.Decoded.{Decoded}
+use Rattle.words.specs.Decoded as D
 
 -- an opcode from 0x80 to 0xdf that is not documented
 abbrev pub none : Decoded
@@ -210,10 +209,6 @@ rows f side mask =
     -- 0xd8: ldvh, ldvv, lds, .., stvh, stvv, sts, the address nop
     ldRow f Horizontal ∷ ldRow f Vertical ∷ ldRow f Scalar ∷ none ∷ stRow f Horizontal ∷ stRow f Vertical ∷ stRow f Scalar ∷ nop ∷
     []
-
--- why an opcode that is no instruction's is refused
-abbrev pub unknownOf : ℕ → Refusal
-unknownOf op = cond (ltb op 0x80) Foreign (cond (ltb 0xdf op) Foreign Undocumented)
 
 -- 1: an opcode below 0x80 or above 0xdf. 2: one of those between that is not documented
 unfoldable pub decodeAt : ℕ → Fields → ℕ → ℕ → Decoded

@@ -1,23 +1,20 @@
 -- `address::aadd` meets its contract.
-use mathlib.Core.Path.{_≡_, refl, sym, _∙_}
-use native.Mathlib.Omega.{arith}
-use Rattle.address.specs.Effect.{addressed, cellsIn, fetched, kept, intoR, intoV, outOf}
-use Rattle.address.specs.Answered.{answerOf, admits}
-use borrow.Author.Tests.{lt-ltb, le-ltb}
+use mathlib.Core.Path.{refl}
+use Rattle.address.specs.Effect.{addressed, cellsIn}
+use Rattle.address.specs.Result.{resultOf}
 use Rattle.regs.specs.Regs.{baseOf}
 use borrow.Author.Needs.{needs}
 use Rattle.address.proofs.aadd.Statement.{statement}
 use Rattle.address.proofs.aadd.Tie as tie
 
 pub aadd-spec : {M : Type 1} → statement M
-unfolding answerOf addressed cellsIn baseOf
+unfolding resultOf addressed cellsIn baseOf
 aadd-spec =
     tie.close
     (tie.spec
-    (λ c. rw (le-ltb (c .before .before .before .args .side) 32 (c .if1 .taken)) refl)
     (λ c κs. search needs)
     (λ c κs. search needs)
     (λ c κs. search needs)
     (λ c. search needs)
     (λ c. search needs)
-    (λ c. rw (lt-ltb (c .before .before .before .before .before .before .before .before .before .before .before .before .before .args .side) 32 (omega (arith, c .before .before .before .before .before .before .before .before .before .before .if1 .left))) (rw (c .before .before .before .before .advance .ensures .0, c .before .before .before .before .advance .ensures .1, c .before .before .before .before .before .before .before .base-at .ensures .0, c .before .before .before .before .before .before .before .before .before .cut .ensures .0) refl)))
+    (λ c. rw (c .before .before .before .before .advance .ensures .0, c .before .before .before .before .advance .ensures .1, c .before .before .before .before .before .before .before .base-at .ensures .0, c .before .before .before .before .before .before .before .before .before .cut .ensures .0) refl))

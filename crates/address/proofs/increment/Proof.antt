@@ -14,6 +14,7 @@ increment-spec =
     tie.close
     (tie.spec
     (λ c. search needs)
+    (λ c. search needs)
     (λ c κs.
     let h = rw (c .before .inc .given .1) at (c .before .before .before .before .pre .1) in
     search needs)

@@ -1,5 +1,4 @@
 -- `address::mark_end` meets its contract.
-use mathlib.Core.Path.{refl}
 use borrow.Author.Needs.{needs}
 use Rattle.address.proofs.mark_end.Statement.{statement}
 use Rattle.address.proofs.mark_end.Tie as tie

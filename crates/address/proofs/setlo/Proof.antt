@@ -1,13 +1,12 @@
 -- `address::setlo` meets its contract.
-use mathlib.Core.Path.{refl}
-use Rattle.address.specs.Effect.{addressed, cellsIn, fetched, kept, intoR, intoV, outOf}
-use Rattle.address.specs.Answered.{answerOf}
+use Rattle.address.specs.Effect.{addressed, cellsIn}
+use Rattle.address.specs.Result.{resultOf}
 use borrow.Author.Needs.{needs}
 use Rattle.address.proofs.setlo.Statement.{statement}
 use Rattle.address.proofs.setlo.Tie as tie
 
 pub setlo-spec : {M : Type 1} → statement M
-unfolding answerOf addressed cellsIn
+unfolding resultOf addressed cellsIn
 setlo-spec =
     tie.close
     (tie.spec

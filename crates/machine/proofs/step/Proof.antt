@@ -3,7 +3,7 @@ use mathlib.Core.Path.{ap, _∙_}
 use Rattle.model.specs.State.{State, state}
 use Rattle.machine.specs.Answers.{stepOutcome}
 use Rattle.machine.specs.declared.Stepped.{Stepped}
-use Rattle.machine.proofs.Units.{single}
+use Rattle.machine.proofs.Single.{single}
 use borrow.Author.Needs.{needs}
 use Rattle.machine.proofs.step.Statement.{statement}
 use Rattle.machine.proofs.step.Tie as tie

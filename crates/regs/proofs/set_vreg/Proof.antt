@@ -1,12 +1,12 @@
 -- `regs::set_vreg` meets its contract: after i turns the first i bytes are pasted.
-use mathlib.Core.Path.{_≡_, refl, sym, ap, _∙_}
+use mathlib.Core.Path.{_≡_, sym, ap, _∙_}
 use mathlib.Core.List.{List, _++_}
 use Prim.Native.Nat.{ℕ, _≤_, _+_, _-_, _*_}
 use native.Mathlib.Omega.{arith}
 use native.Mathlib.Numerals.{add-one}
 use borrow.Author.Needs.{needs}
-use lib.ListN.{length, take, drop, length-take}
-use lib.Seq.{sets, sets-eq, paste, paste-zero, paste-suc, length-paste, length-take-le}
+use lib.ListN.{length, take, drop}
+use lib.Seq.{sets-eq, paste, paste-zero, paste-suc, length-paste, length-take-le}
 use Rattle.regs.specs.Regs.{withVreg}
 use Rattle.regs.proofs.set_vreg.Statement.{statement}
 use Rattle.regs.proofs.set_vreg.Tie as tie

@@ -1,10 +1,10 @@
 -- `regs::vreg` meets its contract: the first i bytes are the register's.
 use mathlib.Core.Path.{_≡_, refl, sym, _∙_}
-use Prim.Native.Nat.{_≤_, _<_, _+_, _-_, _*_}
+use Prim.Native.Nat.{_≤_, _<_, _-_, _*_}
 use native.Mathlib.Omega.{arith}
 use native.Mathlib.Numerals.{add-one}
 use borrow.Author.Needs.{needs}
-use lib.ListN.{length, take, drop, getD, length-set, length-drop}
+use lib.ListN.{length, take, drop, length-set, length-drop}
 use lib.Seq.{take-all, take-suc-set, take-suc, getD-drop}
 use Rattle.regs.specs.Regs.{vregOf}
 use Rattle.regs.proofs.vreg.Statement.{statement}

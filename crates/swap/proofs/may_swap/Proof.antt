@@ -1,9 +1,10 @@
 -- `swap::may_swap` meets its contract: each return knows what was tested before it.
-use mathlib.Core.Path.{_≡_, sym, _∙_}
+use mathlib.Core.Path.{_≡_, sym, ap, _∙_}
 use mathlib.Core.Bool.{true}
 use borrow.Author.Needs.{needs}
 use borrow.Author.Tests.{not-true, not-false}
 use lib.ListN.{length}
+use Rattle.words.specs.Meant.{meant, meantD}
 use Rattle.model.specs.State.{State, state, sizedOf}
 use Rattle.model.proofs.Refused.{sized-if}
 use Rattle.swap.proofs.Calls.{named, small, unfit, first-refused, second-refused, swapping}
@@ -39,7 +40,7 @@ returns-2 c =
     let s = first-start p in
     let a = s .args in
     first-refused (a .word1) (a .side1) (a .mask1) (a .word2) (a .side2) (a .mask2) (from s) (well p) (p .decode .ensures)
-    (c .before .enum-told .given .1) (c .not-swapped .ensures)
+    (ap meantD (c .before .enum-told .given .1)) (c .not-swapped .ensures)
 
 -- after the second
 abbrev first : tie.After-decode2 → tie.After-decode
@@ -52,28 +53,28 @@ returns-3 c =
     let s = first-start p in
     let a = s .args in
     second-refused (a .word1) (a .side1) (a .mask1) (a .word2) (a .side2) (a .mask2) (from s) (well p) (p .decode .ensures)
-    (q .before .before .d .given .1) (q .decode2 .ensures) (c .before .enum-told2 .given .1) (c .not-swapped2 .ensures)
+    (ap meantD (q .before .before .d .given .1)) (q .decode2 .ensures) (ap meantD (c .before .enum-told2 .given .1)) (c .not-swapped2 .ensures)
 
 footprint-requires : tie.Need-footprint-requires
 footprint-requires c κs =
     let q = c .before .before .before in
     let p = first q in
     let a = first-start p .args in
-    (thirty-two p, named (a .word1) (a .side1) (a .mask1) (p .decode .result) _ (p .decode .ensures) (q .before .before .d .given .1))
+    (thirty-two p, named (a .word1) (a .side1) (a .mask1) (p .decode .ensures) (ap meantD (q .before .before .d .given .1)))
 
 footprint-requires-2 : tie.Need-footprint-requires-2
 footprint-requires-2 c κs =
     let q = c .before .before .before .before in
     let p = first q in
     let a = first-start p .args in
-    (thirty-two p, named (a .word2) (a .side2) (a .mask2) (q .decode2 .result) _ (q .decode2 .ensures) (c .before .before .e .given .1))
+    (thirty-two p, named (a .word2) (a .side2) (a .mask2) (q .decode2 .ensures) (ap meantD (c .before .before .e .given .1)))
 
 verdict-requires : tie.Need-verdict-requires
 verdict-requires c κs =
     let q = c .before .before .before .before .before in
     let s = from (first-start (first q)) in (
-      small (q .before .before .d .given .0 .0) s (c .before .footprint .ensures),
-      small (c .before .before .before .e .given .0 .0) s (c .footprint2 .ensures),
+      small (meant (q .before .before .d .given .0 .0)) s (c .before .footprint .ensures),
+      small (meant (c .before .before .before .e .given .0 .0)) s (c .footprint2 .ensures),
     )
 
 returns-4 : tie.Need-returns-4
@@ -83,7 +84,7 @@ returns-4 c =
     let s = first-start p in
     let a = s .args in
     swapping (a .word1) (a .side1) (a .mask1) (a .word2) (a .side2) (a .mask2) (from s) (well p) (p .decode .ensures)
-    (q .before .before .d .given .1) (q .decode2 .ensures) (c .before .before .before .before .e .given .1)
+    (ap meantD (q .before .before .d .given .1)) (q .decode2 .ensures) (ap meantD (c .before .before .before .before .e .given .1))
     (c .before .before .footprint .ensures) (c .before .footprint2 .ensures) (c .verdict .ensures)
 
 pub may-swap-spec : {M : Type 1} → statement M

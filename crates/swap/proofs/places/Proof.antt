@@ -1,8 +1,9 @@
 -- `swap::places` meets its contract: each return knows what was tested before it.
-use mathlib.Core.Path.{_≡_, sym, _∙_}
+use mathlib.Core.Path.{_≡_, sym, ap, _∙_}
 use mathlib.Core.Bool.{true}
 use borrow.Author.Needs.{needs}
 use borrow.Author.Tests.{not-true, not-false}
+use Rattle.words.specs.Meant.{meant, meantD}
 use Rattle.model.specs.State.{State, state, sizedOf}
 use Rattle.model.proofs.Refused.{sized-if}
 use Rattle.swap.proofs.Calls.{named, small, ordered, unfit-pieces, unfit-buffer, refused, listing}
@@ -38,14 +39,14 @@ returns-3 c =
     let p = c .before .before .before in
     let s = start (sized p .before) in
     refused (s .args .word) (s .args .side) (s .args .mask) (from s) (s .args .buffer .now) (well (sized p)) (p .before .if2 .left)
-    (p .decode .ensures) (c .before .enum-told .given .1) (c .not-listed .ensures)
+    (p .decode .ensures) (ap meantD (c .before .enum-told .given .1)) (c .not-listed .ensures)
 
 footprint-requires : tie.Need-footprint-requires
 footprint-requires c κs =
     let p = c .before .before .before in
     let s = start (sized p .before) in (
       sized-if (from s) (well (sized p)) .a,
-      named (s .args .word) (s .args .side) (s .args .mask) (p .decode .result) _ (p .decode .ensures) (c .before .d .given .1),
+      named (s .args .word) (s .args .side) (s .args .mask) (p .decode .ensures) (ap meantD (c .before .d .given .1)),
     )
 
 report-requires : tie.Need-report-requires
@@ -53,7 +54,7 @@ report-requires c κs =
     let d = c .before .before .before in
     let p = d .before .before in
     let s = from (start (sized p .before)) in
-    let i = d .d .given .0 .0 in
+    let i = meant (d .d .given .0 .0) in
     (p .before .if2 .left, small i s (c .before .footprint .ensures), ordered i s (c .before .footprint .ensures))
 
 returns-4 : tie.Need-returns-4
@@ -64,7 +65,7 @@ returns-4 c =
     let p = d .before .before in
     let s = start (sized p .before) in
     listing (s .args .word) (s .args .side) (s .args .mask) (from s) (s .args .buffer .now) (well (sized p)) (p .before .if2 .left)
-    (p .decode .ensures) (d .d .given .1) (f .footprint .ensures) (r .report .ensures)
+    (p .decode .ensures) (ap meantD (d .d .given .1)) (f .footprint .ensures) (r .report .ensures)
 
 pub places-spec : {M : Type 1} → statement M
 places-spec =

@@ -1,6 +1,6 @@
 -- `vector::compared` meets its contract.
 use mathlib.Core.Path.{refl}
-use borrow.Author.Tests.{lt-ltb, le-ltb}
+use borrow.Author.Tests.{le-ltb}
 use Rattle.regs.specs.Regs.{flagsAt}
 use Rattle.vector.specs.Effect.{vectored}
 use Rattle.vector.proofs.Pair.{pair}
@@ -20,5 +20,5 @@ compared-spec =
     (λ c κs. search needs)
     (λ c κs. search needs)
     (λ c. search needs)
-    (λ c. rw (c .before .before .set-flags .ensures, c .before .before .before .before .cmpad .ensures, c .before .before .before .before .before .input-of .ensures, c .before .before .before .before .before .before .before .vreg3 .ensures, c .before .before .before .before .before .before .before .before .vreg2 .ensures, c .before .before .before .before .before .before .before .before .before .vreg .ensures) refl)
+    (λ c. rw (c .before .before .set-flags .ensures, c .before .before .before .before .vcmpad .ensures, c .before .before .before .before .before .input-of .ensures, c .before .before .before .before .before .before .before .vreg3 .ensures, c .before .before .before .before .before .before .before .before .vreg2 .ensures, c .before .before .before .before .before .before .before .before .before .vreg .ensures) refl)
     (λ c. rw (le-ltb (c .before .before .before .before .args .f .flags) 4 (c .if1 .left)) refl))

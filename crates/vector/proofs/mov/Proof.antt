@@ -1,12 +1,13 @@
 -- `vector::mov` meets its contract.
-use mathlib.Core.Path.{_≡_, refl, _∙_}
-use Rattle.vector.specs.Effect.{answerOf, vectored, secondOf}
+use mathlib.Core.Path.{refl, _∙_}
+use Rattle.vector.specs.Effect.{resultOf, vectored, secondOf}
+use Rattle.lanes.proofs.Marking.{mov-marked}
 use borrow.Author.Needs.{needs}
 use Rattle.vector.proofs.mov.Statement.{statement}
 use Rattle.vector.proofs.mov.Tie as tie
 
 pub mov-spec : {M : Type 1} → statement M
-unfolding answerOf vectored secondOf
+unfolding resultOf vectored secondOf
 mov-spec =
     tie.close
     (tie.spec
@@ -16,4 +17,4 @@ mov-spec =
     (λ c κs. search needs)
     (λ c. search needs)
     (λ c. search needs)
-    (λ c. c .before .before .before .before .put .ensures ∙ rw (c .before .before .before .before .before .before .before .mov .ensures, c .before .before .before .before .before .before .before .before .vreg .ensures, c .before .before .before .before .before .before .before .before .before .before .cut .ensures .0) refl))
+    (λ c. c .before .before .before .before .put .ensures ∙ rw (c .before .before .before .before .before .before .before .mov .ensures, mov-marked, c .before .before .before .before .before .before .before .before .vreg .ensures, c .before .before .before .before .before .before .before .before .before .before .cut .ensures .0) refl))

@@ -4,7 +4,7 @@ use Prim.Native.Nat.{_%_}
 use native.Mathlib.Omega.{arith}
 use borrow.Author.Tests.{lt-ltb, le-ltb}
 use Rattle.lanes.specs.Marks.{topsOf}
-use Rattle.lanes.proofs.Weights.{tops-lt}
+use Rattle.lanes.proofs.Packing.{tops-lt}
 use Rattle.regs.specs.Regs.{flagsAt}
 use borrow.Author.Needs.{needs}
 use Rattle.vector.proofs.pack.Statement.{statement}
@@ -16,9 +16,8 @@ pack-spec =
     tie.close
     (tie.spec
     (λ c κs. search needs)
-    (λ c κs. search needs)
     (λ c. search needs)
     (λ c. search needs)
     (λ c. search needs)
-    (λ c. let t = c .before .before .before .before .args .tops in let e : topsOf t % 65536 ≡ topsOf t = omega (arith, tops-lt t) in rw (lt-ltb (c .before .before .before .before .args .vcdst) 4 (c .before .before .if1 .taken), c .weighed .ensures, e) refl)
+    (λ c. let t = c .before .before .before .args .tops in let e : topsOf t % 65536 ≡ topsOf t = omega (arith, tops-lt t) in rw (lt-ltb (c .before .before .before .args .vcdst) 4 (c .before .if1 .taken), c .flags .ensures, e) refl)
     (λ c. rw (le-ltb (c .before .before .args .vcdst) 4 (c .if1 .left)) refl))

@@ -1,4 +1,8 @@
 -- `vector::second_of` meets its contract.
+use mathlib.Core.Path.{ap, sym, _∙_}
+use lib.ListN.{replicate}
+use Rattle.regs.specs.Regs.{vregOf}
+use Rattle.words.specs.declared.Fields.{Fields}
 use Rattle.vector.specs.Effect.{secondOf}
 use borrow.Author.Needs.{needs}
 use Rattle.vector.proofs.second_of.Statement.{statement}
@@ -11,5 +15,7 @@ second-of-spec =
     (tie.spec
     (λ c κs. search needs)
     (λ c κs. search needs)
-    (λ c. rw (c .before .if1 .taken) (c .splat .ensures))
-    (λ c. rw (c .before .if1 .left) (c .vreg .ensures)))
+    (λ c κs. search needs)
+    (λ c κs. search needs)
+    (λ c. rw (sym (c .before .before .by-byte .ensures) ∙ c .before .if1 .taken) (c .splat .ensures ∙ ap (λ (f : Fields). replicate 16 (f .byte)) (c .before .before .before .cut .ensures .0)))
+    (λ c. let p = c .before .before .before in rw (sym (c .before .before .by-byte .ensures) ∙ c .before .if1 .left) (c .vreg .ensures ∙ ap (λ (f : Fields). vregOf (p .before .before .args .v .now) (f .src2)) (p .cut .ensures .0))))

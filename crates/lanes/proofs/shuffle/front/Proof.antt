@@ -1,4 +1,5 @@
 -- `lanes::shuffle::front` meets its contract, by the law of a loop that copies.
+use mathlib.Core.Path.{refl, sym}
 use Prim.Native.Nat.{_-_}
 use borrow.Author.Needs.{needs}
 use native.Mathlib.Nat.{zero-add}
@@ -19,5 +20,5 @@ front-spec =
     tie.close
     (tie.spec Inv μ (λ c. copy-start _ _ _)
     (λ c. search needs) (λ c. search needs) (λ c. search needs) (λ c. search needs)
-    (λ c. let l = c .before in rw (zero-add (l .loop .i)) at (copy-more (l .loop .inv) (l .before .good .0 .1 .0 .1) (omega arith) (c .loop-test .taken)))
+    (λ c. let l = c .before in copy-more (l .loop .inv) (l .before .good .0 .1 .0 .1) (omega arith) (c .loop-test .taken) (sym (zero-add (l .loop .i))) refl)
     (λ c. let l = c .before in copy-done (l .loop .inv) (l .before .good .0 .1 .0 .1) (c .loop-test .left)))

@@ -9,6 +9,7 @@ put-increment-spec =
     tie.close
     (tie.spec
     (λ c. search needs)
+    (λ c. search needs)
     (λ c κs. rw (c .before .inc .given .1) at (c .before .before .before .pre))
     (λ c. search needs)
     (λ c. rw (c .before .before .inc .given .1) (c .put-half .ensures))

@@ -1,9 +1,26 @@
 -- `swap::list::put_input` meets its contract.
-use Rattle.swap.proofs.Grown.{none, one}
+use Prim.Native.Nat.{ℕ, _≤_, _<_}
 use borrow.Author.Needs.{needs}
+use borrow.Author.Tests.{lt-ltb, le-ltb}
 use native.Mathlib.Omega.{arith}
+use Rattle.words.specs.Fields.{inputOf}
+use Rattle.words.specs.Input as I
+use Rattle.model.specs.Table.{input}
+use Rattle.swap.specs.Listing.{Room, Adds}
+use Rattle.swap.specs.declared.Listing.{Listing}
+use Rattle.swap.proofs.Grown.{none, one}
 use Rattle.swap.proofs.list.put_input.Statement.{statement}
 use Rattle.swap.proofs.list.put_input.Tie as tie
+
+module _ {l : Listing} (vcdst mask : ℕ) where
+  signs-asked : mask < 65536 → Room l (input vcdst (inputOf mask)) → Room l (input vcdst I.Signs)
+  signs-asked h k = rw (lt-ltb mask 65536 h) at k
+
+  signs-given : {r : Listing} → mask < 65536 → Adds l (input vcdst I.Signs) r → Adds l (input vcdst (inputOf mask)) r
+  signs-given h k = rw (lt-ltb mask 65536 h) k
+
+  nothing-given : 65536 ≤ mask → Adds l (input vcdst (inputOf mask)) l
+  nothing-given h = rw (le-ltb mask 65536 h) none
 
 pub put-input-spec : {M : Type 1} → statement M
 put-input-spec =
@@ -11,8 +28,6 @@ put-input-spec =
     (tie.spec
     (λ c. search needs)
     (λ c. search needs)
-    (λ c. search needs)
-    (λ c. search needs)
-    (λ c κs. let h = rw (c .enum-told2 .given .1) at (c .before .before .pre) in omega (arith, h .free))
-    (λ c. rw (c .enum-told .given .1) none)
-    (λ c. rw (c .before .enum-told2 .given .1) (one _ (c .push .ensures) (omega arith))))
+    (λ c κs. let s = c .before in let h = signs-asked (s .args .vcdst) (s .args .mask) (c .if1 .taken) (s .pre) in omega (arith, h .free))
+    (λ c. let s = c .before .before in signs-given (s .args .vcdst) (s .args .mask) (c .before .if1 .taken) (one _ (c .push .ensures) (omega arith)))
+    (λ c. let s = c .before in nothing-given (s .args .vcdst) (s .args .mask) (c .if1 .left)))

@@ -1,0 +1,23 @@
+-- `address::ldavv` meets its contract.
+use mathlib.Core.Path.{refl}
+use Rattle.address.specs.Effect.{addressed, cellsIn, fetched, kept, intoR, intoV, outOf}
+use Rattle.address.specs.Result.{resultOf}
+use borrow.Author.Needs.{needs}
+use Rattle.address.proofs.ldavv.Statement.{statement}
+use Rattle.address.proofs.ldavv.Tie as tie
+
+pub ldavv-spec : {M : Type 1} → statement M
+unfolding resultOf addressed cellsIn fetched kept intoR intoV outOf
+ldavv-spec =
+    tie.close
+    (tie.spec
+    (λ c κs. search needs)
+    (λ c κs. search needs)
+    (λ c. search needs)
+    (λ c κs. search needs)
+    (λ c κs. search needs)
+    (λ c κs. search needs)
+    (λ c. search needs)
+    (λ c. search needs)
+    (λ c. search needs)
+    (λ c. rw (c .cells .ensures, c .before .before .before .before .before .move-on .ensures .0, c .before .before .before .before .before .move-on .ensures .1, c .before .before .before .before .before .before .before .before .before .before .column-in .ensures, c .before .before .before .before .before .before .before .before .before .before .before .before .before .base-at .ensures .0, c .before .before .before .before .before .before .before .before .before .before .before .before .before .before .before .cut .ensures .0) refl))

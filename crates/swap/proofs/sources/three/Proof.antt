@@ -1,0 +1,19 @@
+-- `swap::sources::three` meets its contract.
+use mathlib.Core.List.{List, [], _∷_}
+use borrow.Author.Needs.{needs}
+use Rattle.words.specs.declared.Fields.{Fields}
+use Rattle.model.specs.Place.{Place, vec}
+use Rattle.swap.proofs.Grown.{room-cut, adds-cut}
+use Rattle.swap.proofs.sources.three.Statement.{statement}
+use Rattle.swap.proofs.sources.three.Tie as tie
+
+abbrev named : Fields → List Place
+named f = vec (f .src1) ∷ vec (f .src2) ∷ vec (f .src3) ∷ []
+
+pub three-spec : {M : Type 1} → statement M
+three-spec =
+    tie.close
+    (tie.spec
+    (λ c κs. search needs)
+    (λ c κs. room-cut named (c .cut .ensures .0) (c .before .pre))
+    (λ c. adds-cut named (c .before .cut .ensures .0) (c .put-three .ensures)))

@@ -1,0 +1,16 @@
+-- `vector::vcmpad` meets its contract.
+use mathlib.Core.Path.{ap}
+use Rattle.vector.specs.Effect.{result, resultOf}
+use borrow.Author.Needs.{needs}
+use Rattle.vector.proofs.vcmpad.Statement.{statement}
+use Rattle.vector.proofs.vcmpad.Tie as tie
+
+pub vcmpad-spec : {M : Type 1} → statement M
+unfolding resultOf
+vcmpad-spec =
+    tie.close
+    (tie.spec
+    (λ c κs. search needs)
+    (λ c κs. search needs)
+    (λ c. search needs)
+    (λ c. rw (← (c .before .before .before .before .cut .ensures .0)) (ap (result 0) (c .before .before .compared .ensures))))

@@ -1,0 +1,19 @@
+-- `vector::vmov` meets its contract.
+use mathlib.Core.Path.{refl, _∙_}
+use Rattle.vector.specs.Effect.{resultOf, vectored, secondOf}
+use Rattle.lanes.proofs.Marking.{mov-imm-marked}
+use borrow.Author.Needs.{needs}
+use Rattle.vector.proofs.vmov.Statement.{statement}
+use Rattle.vector.proofs.vmov.Tie as tie
+
+pub vmov-spec : {M : Type 1} → statement M
+unfolding resultOf vectored secondOf
+vmov-spec =
+    tie.close
+    (tie.spec
+    (λ c κs. search needs)
+    (λ c κs. search needs)
+    (λ c κs. search needs)
+    (λ c. search needs)
+    (λ c. search needs)
+    (λ c. c .before .before .before .before .put .ensures ∙ rw (c .before .before .before .before .before .before .before .vmov .ensures, mov-imm-marked, c .before .before .before .before .before .before .before .before .cut .ensures .0) refl))

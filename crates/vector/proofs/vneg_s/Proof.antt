@@ -1,0 +1,20 @@
+-- `vector::vneg_s` meets its contract.
+use mathlib.Core.Path.{refl, _∙_}
+use Rattle.vector.specs.Effect.{resultOf, vectored, secondOf}
+use Rattle.lanes.proofs.Marking.{arith-marked}
+use borrow.Author.Needs.{needs}
+use Rattle.vector.proofs.vneg_s.Statement.{statement}
+use Rattle.vector.proofs.vneg_s.Tie as tie
+
+pub vneg-s-spec : {M : Type 1} → statement M
+unfolding resultOf vectored secondOf
+vneg-s-spec =
+    tie.close
+    (tie.spec
+    (λ c κs. search needs)
+    (λ c κs. search needs)
+    (λ c κs. search needs)
+    (λ c κs. search needs)
+    (λ c. search needs)
+    (λ c. search needs)
+    (λ c. c .before .before .before .before .put .ensures ∙ rw (c .before .before .before .before .before .before .before .vneg-s .ensures, arith-marked, c .before .before .before .before .before .before .before .before .vreg .ensures, c .before .before .before .before .before .before .before .before .before .before .cut .ensures .0) refl))

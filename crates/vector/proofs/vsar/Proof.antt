@@ -1,0 +1,21 @@
+-- `vector::vsar` meets its contract.
+use mathlib.Core.Path.{refl, _∙_}
+use Rattle.vector.specs.Effect.{resultOf, vectored, secondOf}
+use Rattle.lanes.proofs.Marking.{shift-marked}
+use borrow.Author.Needs.{needs}
+use Rattle.vector.proofs.vsar.Statement.{statement}
+use Rattle.vector.proofs.vsar.Tie as tie
+
+pub vsar-spec : {M : Type 1} → statement M
+unfolding resultOf vectored secondOf
+vsar-spec =
+    tie.close
+    (tie.spec
+    (λ c κs. search needs)
+    (λ c κs. search needs)
+    (λ c κs. search needs)
+    (λ c κs. search needs)
+    (λ c κs. search needs)
+    (λ c. search needs)
+    (λ c. search needs)
+    (λ c. c .before .before .before .before .put .ensures ∙ rw (c .before .before .before .before .before .before .before .vsar .ensures, shift-marked, c .before .before .before .before .before .before .before .before .second-of .ensures, c .before .before .before .before .before .before .before .before .before .before .vreg .ensures, c .before .before .before .before .before .before .before .before .before .before .before .before .cut .ensures .0) refl))

@@ -1,0 +1,21 @@
+-- `vector::vsub_u` meets its contract.
+use mathlib.Core.Path.{refl, _∙_}
+use Rattle.vector.specs.Effect.{resultOf, vectored, secondOf}
+use Rattle.lanes.proofs.Marking.{arith-marked}
+use borrow.Author.Needs.{needs}
+use Rattle.vector.proofs.vsub_u.Statement.{statement}
+use Rattle.vector.proofs.vsub_u.Tie as tie
+
+pub vsub-u-spec : {M : Type 1} → statement M
+unfolding resultOf vectored secondOf
+vsub-u-spec =
+    tie.close
+    (tie.spec
+    (λ c κs. search needs)
+    (λ c κs. search needs)
+    (λ c κs. search needs)
+    (λ c κs. search needs)
+    (λ c κs. search needs)
+    (λ c. search needs)
+    (λ c. search needs)
+    (λ c. c .before .before .before .before .put .ensures ∙ rw (c .before .before .before .before .before .before .before .vsub-u .ensures, arith-marked, c .before .before .before .before .before .before .before .before .second-of .ensures, c .before .before .before .before .before .before .before .before .before .before .vreg .ensures, c .before .before .before .before .before .before .before .before .before .before .before .before .cut .ensures .0) refl))

@@ -1,0 +1,20 @@
+-- `vector::vxor` meets its contract.
+use mathlib.Core.Path.{refl, _∙_}
+use Rattle.vector.specs.Effect.{resultOf, vectored, secondOf}
+use Rattle.lanes.proofs.Marking.{logic-marked}
+use borrow.Author.Needs.{needs}
+use Rattle.vector.proofs.vxor.Statement.{statement}
+use Rattle.vector.proofs.vxor.Tie as tie
+
+pub vxor-spec : {M : Type 1} → statement M
+unfolding resultOf vectored secondOf
+vxor-spec =
+    tie.close
+    (tie.spec
+    (λ c κs. search needs)
+    (λ c κs. search needs)
+    (λ c κs. search needs)
+    (λ c κs. search needs)
+    (λ c. search needs)
+    (λ c. search needs)
+    (λ c. c .before .before .before .before .put .ensures ∙ rw (c .before .before .before .before .before .before .before .vxor .ensures, logic-marked, c .before .before .before .before .before .before .before .before .vreg .ensures, c .before .before .before .before .before .before .before .before .before .before .cut .ensures .0) refl))

@@ -1,0 +1,2 @@
+-- That only one outcome fits a call.
+pub mod Unique
