@@ -1,7 +1,11 @@
-/* One list, run by one engine: what bench/run counts the instructions of.
+/* One list, run by one engine: what bench/run and bench/check count the instructions of.
      driver ENGINE LIST STEPS BUDGET [SECONDS]
-   ENGINE is ours or theirs; LIST is an opcode (two hexadecimal digits), mix, kernel or column; the list has STEPS triples and is run with
-   BUDGET, so that a run with budget 0 costs all but the steps. With a fifth word the run is repeated and its nanoseconds for each step are printed. */
+   ENGINE is ours or theirs; LIST is an opcode (two hexadecimal digits), mix, kernel, or column0 to column3, by the stride code; the list has STEPS
+   triples and is run with BUDGET, so that a run with budget 0 costs all but the steps. With a fifth word the run is repeated and its nanoseconds for
+   each step are printed.
+     driver opcodes
+   prints the documented opcodes. */
+#include "documented.h"
 #include "vp1.h"
 #include "vp1_second.h"
 
@@ -10,8 +14,7 @@
 #include <string.h>
 #include <time.h>
 
-static uint8_t ds[8192], v[512];
-static uint32_t a[32], r[32], c[4], vc[4];
+static struct vp1_state s;
 static uint64_t seed = 0x243f6a8885a308d3;
 
 static uint32_t draw(void)
@@ -22,16 +25,12 @@ static uint32_t draw(void)
     return (uint32_t)(seed >> 32);
 }
 
-static void fill(void *p, size_t n)
+static void fill(void)
 {
-    for (size_t i = 0; i < n; i++)
-        ((uint8_t *)p)[i] = (uint8_t)draw();
+    uint8_t *bytes = (uint8_t *)&s;
+    for (size_t i = 0; i < sizeof s; i++)
+        bytes[i] = (uint8_t)draw();
 }
-
-static const uint8_t documented[59] = {
-    0x88, 0x89, 0x8a, 0x8b, 0x8c, 0x8d, 0x8e, 0x8f, 0x94, 0x98, 0x99, 0x9a, 0x9b, 0x9c, 0x9d, 0x9e, 0x9f, 0xa4, 0xa5, 0xa8,
-    0xa9, 0xaa, 0xab, 0xac, 0xad, 0xae, 0xaf, 0xb8, 0xb9, 0xba, 0xbb, 0xbc, 0xbd, 0xbe, 0xbf, 0xc0, 0xc1, 0xc2, 0xc4, 0xc5,
-    0xc6, 0xca, 0xcb, 0xcc, 0xcd, 0xd0, 0xd1, 0xd2, 0xd3, 0xd4, 0xd5, 0xd6, 0xd8, 0xd9, 0xda, 0xdc, 0xdd, 0xde, 0xdf};
 
 /* Motion compensation of two rows and two columns: prediction in $v0 and $v1, residues in $v2 and $v3, the range in $v8 and $v9. */
 static const uint32_t kernel[10] = {
@@ -47,12 +46,18 @@ static const uint32_t kernel[10] = {
     0xd521c009, /* stavv $v7 $c1 $a4 0x1 */
 };
 
+/* The stride code of a list of columns, or -1. */
+static int column(const char *list)
+{
+    return strlen(list) == 7 && strncmp(list, "column", 6) == 0 && list[6] >= '0' && list[6] <= '3' ? list[6] - '0' : -1;
+}
+
 /* The opcode of triple i of a list. */
 static uint32_t opcode(const char *list, size_t i)
 {
     if (strcmp(list, "mix") == 0)
-        return documented[i % 59];
-    if (strcmp(list, "column") == 0)
+        return documented[i % sizeof documented];
+    if (column(list) >= 0)
         return i % 2 == 0 ? 0xd9 : 0xdd;
     return (uint32_t)strtoul(list, NULL, 16);
 }
@@ -68,22 +73,43 @@ static void make(const char *list, uint32_t *words, size_t steps)
         w[1] = draw() % 32;
         w[2] = draw() % 0x20000;
     }
-    if (strcmp(list, "column") == 0) /* the worst case: vertical accesses under code 0 */
-        for (int i = 0; i < 32; i++)
-            a[i] &= 0x3fffffff;
+    for (int i = 0; i < VP1_A && column(list) >= 0; i++)
+        s.a[i] = (s.a[i] & 0x3fffffff) | (uint32_t)column(list) << 30;
 }
 
 static uint32_t once(const char *engine, const uint32_t *words, size_t steps, uint32_t budget)
 {
     uint32_t done;
-    uint64_t cells;
+    struct vp1_counts counts;
     if (strcmp(engine, "ours") == 0)
-        return vp1_run(words, 3 * steps, budget, ds, 8192, a, 32, r, 32, c, 4, vc, 4, v, 512, &done, &cells);
-    return second_run(words, 3 * steps, budget, ds, 8192, a, 32, r, 32, c, 4, vc, 4, v, 512, &done, &cells);
+        return vp1_state_run(&s, words, 3 * steps, budget, &done, &counts);
+    return second_run(words, 3 * steps, budget, s.ds, SECOND_DS, s.a, SECOND_A, s.r, SECOND_R, s.c, SECOND_C, s.vc, SECOND_VC,
+                      s.v, SECOND_V, &done, &counts.accesses);
+}
+
+static void print_nanoseconds(const char *engine, const uint32_t *words, size_t steps, uint32_t budget)
+{
+    int turns = (int)(20000000 / (steps + 1)) + 1;
+    struct timespec from, to;
+    clock_gettime(CLOCK_MONOTONIC, &from);
+    for (int i = 0; i < turns; i++)
+        once(engine, words, steps, budget);
+    clock_gettime(CLOCK_MONOTONIC, &to);
+    printf("%.1f\n", ((double)(to.tv_sec - from.tv_sec) * 1e9 + (double)(to.tv_nsec - from.tv_nsec)) / turns / (double)steps);
+}
+
+static void print_opcodes(void)
+{
+    for (size_t i = 0; i < sizeof documented; i++)
+        printf("%02x\n", documented[i]);
 }
 
 int main(int argc, char **argv)
 {
+    if (argc == 2 && strcmp(argv[1], "opcodes") == 0) {
+        print_opcodes();
+        return 0;
+    }
     if (argc < 5)
         return 2;
     size_t steps = strtoul(argv[3], NULL, 10);
@@ -91,25 +117,13 @@ int main(int argc, char **argv)
     uint32_t *words = malloc(12 * steps + 12);
     if (words == NULL)
         return 2;
-    fill(ds, sizeof ds);
-    fill(a, sizeof a);
-    fill(r, sizeof r);
-    fill(c, sizeof c);
-    fill(vc, sizeof vc);
-    fill(v, sizeof v);
+    fill();
     make(argv[2], words, steps);
     uint32_t answer = once(argv[1], words, steps, budget);
-    if (answer != (budget < steps ? 7u : 0u)) /* every list is good: anything else is a mistake of this program's */
+    if (answer != (budget < steps ? VP1_SPENT : VP1_DONE)) /* every list is good: anything else is a mistake of this program's */
         return 1;
-    if (argc > 5) {
-        int turns = (int)(20000000 / (steps + 1)) + 1;
-        struct timespec from, to;
-        clock_gettime(CLOCK_MONOTONIC, &from);
-        for (int i = 0; i < turns; i++)
-            once(argv[1], words, steps, budget);
-        clock_gettime(CLOCK_MONOTONIC, &to);
-        printf("%.1f\n", ((double)(to.tv_sec - from.tv_sec) * 1e9 + (double)(to.tv_nsec - from.tv_nsec)) / turns / (double)steps);
-    }
+    if (argc > 5)
+        print_nanoseconds(argv[1], words, steps, budget);
     free(words);
     return 0;
 }

@@ -3,14 +3,13 @@
 
 #include <stdio.h>
 
-static uint8_t ds[8192], v[512];
-static uint32_t a[32], r[32], c[4], vc[4];
+static struct vp1_state s;
 
 /* The instructions use neither side input, so both are 0. */
 static void ask(const char *first, uint32_t one, const char *second, uint32_t two)
 {
     uint32_t clash, place, writer;
-    uint32_t answer = vp1_may_swap(one, 0, 0, two, 0, 0, ds, 8192, a, 32, r, 32, c, 4, vc, 4, v, 512, &clash, &place, &writer);
+    uint32_t answer = vp1_state_may_swap(&s, one, 0, 0, two, 0, 0, &clash, &place, &writer);
     printf("%s; %s: ", first, second);
     if (answer != VP1_DONE)
         printf("refused, %u\n", (unsigned)answer);
@@ -29,7 +28,7 @@ int main(void)
     ask("load", load, "add", add);
     ask("load", load, "sum", sum);
     ask("load", load, "store", store); /* $a0 and $a1 both point to the row at 0 .. */
-    a[1] = 0x10;
+    s.a[1] = 0x10;
     ask("load", load, "store", store); /* .. and now to two rows */
     return 0;
 }

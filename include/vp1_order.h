@@ -1,9 +1,10 @@
 /* Questions about the instructions of VP1's address and vector units: which places one touches, and whether two may be swapped. The six pieces,
-   what the caller owes and the numbers of the answers are those of vp1.h; the calls are in a library of their own, libvp1_order.a. */
+   what the caller owes and the numbers of the answers are in vp1_state.h. The calls are in libvp1_order.a, and nothing here needs another library.
+   Below the two calls, vp1_state_places and vp1_state_may_swap are the calls over struct vp1_state, which holds the six pieces together. */
 #ifndef VP1_ORDER_H
 #define VP1_ORDER_H
 
-#include "vp1.h"
+#include "vp1_state.h"
 
 #ifdef __cplusplus
 extern "C" {
@@ -51,6 +52,23 @@ uint32_t vp1_may_swap(uint32_t word1, uint32_t side1, uint32_t mask1,
                       const uint32_t *vc, size_t vc_len,
                       const uint8_t *v, size_t v_len,
                       uint32_t *clash, uint32_t *place, uint32_t *writer);
+
+/* vp1_places and vp1_may_swap over a state as a whole: the same answers, but never VP1_LENGTHS; the same numbers. The caller owes the same: no null
+   pointer, and nothing that is written overlaps anything else; the buffer has room for VP1_PLACES numbers. */
+static inline uint32_t vp1_state_places(const struct vp1_state *s, uint32_t word, uint32_t side, uint32_t mask,
+                                        uint32_t buffer[VP1_PLACES], uint32_t *reads, uint32_t *writes)
+{
+    return vp1_places(word, side, mask, s->ds, VP1_DS, s->a, VP1_A, s->r, VP1_R, s->c, VP1_C, s->vc, VP1_VC, s->v, VP1_V,
+                      buffer, VP1_PLACES, reads, writes);
+}
+
+static inline uint32_t vp1_state_may_swap(const struct vp1_state *s, uint32_t word1, uint32_t side1, uint32_t mask1,
+                                          uint32_t word2, uint32_t side2, uint32_t mask2,
+                                          uint32_t *clash, uint32_t *place, uint32_t *writer)
+{
+    return vp1_may_swap(word1, side1, mask1, word2, side2, mask2, s->ds, VP1_DS, s->a, VP1_A, s->r, VP1_R, s->c, VP1_C,
+                        s->vc, VP1_VC, s->v, VP1_V, clash, place, writer);
+}
 
 #ifdef __cplusplus
 }

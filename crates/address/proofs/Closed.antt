@@ -6,27 +6,30 @@ use Prim.Native.Nat.{ℕ, zero, suc, _+_, _*_, _/_, _%_}
 use native.Mathlib.Omega.{arith}
 use lib.ListN.{getD, set, drop}
 use Rattle.banks.specs.Bank.{at, pairOf}
-use Rattle.banks.specs.Line.{addresses, places, distinct, cellsOf}
-use Rattle.banks.specs.declared.Way.{Way}
-use Rattle.banks.specs.declared.Way.the-variants.{Horizontal, Vertical, Scalar}
+use Rattle.banks.specs.Line.{addresses, distinct}
+use Rattle.banks.specs.inner.Access.{places, cellsOf}
+use Rattle.terms.specs.declared.Way.{Way}
+use Rattle.terms.specs.declared.Way.the-variants.{Horizontal, Vertical, Scalar}
 use Rattle.banks.proofs.Counts.{cells-are}
-use Rattle.store.specs.Store.{loaded, stored, wordOf, bytesOf}
-use Rattle.regs.specs.Regs.{vregOf, withVreg, baseOf, withHalf, withLong, withEnd, longAt, endAt}
-use Rattle.words.specs.declared.Half.{Half}
-use Rattle.words.specs.declared.Half.the-variants.{Low, High}
+use Rattle.store.specs.inner.Loads.{loaded, stored, wordOf, bytesOf}
+use Rattle.pieces.specs.inner.Regs.{vregOf, withVreg, baseOf, withHalf, withLong, withEnd, longAt, endAt}
+use Rattle.terms.specs.declared.Half.{Half}
+use Rattle.terms.specs.declared.Half.the-variants.{Low, High}
 use Rattle.words.specs.declared.Increment.{Increment}
 use Rattle.words.specs.declared.Increment.the-variants.{Register, Immediate}
 use Rattle.words.specs.Insn as N
 use Rattle.words.specs.Address.{Address}
 use Rattle.words.specs.Address.{Set, Add, Bitop, Aadd, Ld, St, Lda, Sta}
-use Rattle.model.specs.State.{State, state, C, over}
-use Rattle.model.specs.Place.{Addr, xlat, put, halves, edit, upd, lo, hi}
+use Rattle.pieces.specs.State.{State, state, C, over}
+use Rattle.pieces.specs.Place.{Addr, xlat, put, halves, edit, upd}
 use Rattle.model.specs.Prog as P
 use Rattle.model.specs.Prog.{Prog, ret, _>>=_, run, puts, Write, Did, Done, done}
 use Rattle.model.specs.Address as M
-use Rattle.model.specs.Step.{stepped, entered}
+use Rattle.terms.specs.Counts.{entering}
+use Rattle.terms.specs.declared.Counts.{Counts}
+use Rattle.model.specs.Step.{stepped, counted}
 use Rattle.model.proofs.Laws.{gathered, scattered, run-bind, puts-append, puts-cond, run-loads, puts-stores}
-use Rattle.address.specs.Effect.{Pieces, five, addressed, cellsIn, incOf, fetched, kept, intoR, intoV, outOf}
+use Rattle.address.specs.inner.Effect.{Pieces, five, addressed, countsIn, incOf, fetched, kept, intoR, intoV, outOf}
 
 -- ---- words and flags
 
@@ -34,12 +37,12 @@ word-get : (w : ℕ) → w / 65536 * 65536 + w % 65536 ≡ w
 word-get w = omega arith
 
 -- two halves put are the word put
-word-put : (d x : ℕ) (l : List ℕ) → upd d (edit halves hi (x / 65536)) (upd d (edit halves lo (x % 65536)) l) ≡ set l d x
+word-put : (d x : ℕ) (l : List ℕ) → upd d (edit halves High (x / 65536)) (upd d (edit halves Low (x % 65536)) l) ≡ set l d x
 word-put d x [] = refl
 word-put zero x (w ∷ ws) = ap (λ (z : ℕ). z ∷ ws) (omega arith)
 word-put (suc d) x (w ∷ ws) = ap (λ (z : List ℕ). w ∷ z) (word-put d x ws)
 
-half-put : (h : Half) (x w : ℕ) → edit halves (M.half h) x w ≡ withHalf h x w
+half-put : (h : Half) (x w : ℕ) → edit halves h x w ≡ withHalf h x w
 unfolding withHalf
 half-put Low x w = refl
 half-put High x w = refl
@@ -121,13 +124,13 @@ pairs : (c : ℕ) (l : List ℕ) → map (λ (b : Addr). pairOf (b .stride) (b .
 pairs c [] = refl
 pairs c (y ∷ l) = ap (λ (z : List ℕ). pairOf c y ∷ z) (pairs c l)
 
-enters : (way : Way) (c x : ℕ) → P.entered (M.span way c x) ≡ cellsOf way c
-enters way c x = ap distinct (pairs c (addresses way c x)) ∙ cells-are way c x
+enters : (way : Way) (c x : ℕ) → entering (P.entered (M.span way c x)) ≡ entering (cellsOf way c)
+enters way c x = ap entering (ap distinct (pairs c (addresses way c x)) ∙ cells-are way c x)
 
-abbrev count : Done → ℕ
-count d = d .counts .accesses
+abbrev count : Done → Counts
+count d = d .counts
 
-count-loading : (way : Way) (n c x : ℕ) (rest : List Write) (s : State) → count (end (M.loading way n c x rest) s) ≡ cellsOf way c
+count-loading : (way : Way) (n c x : ℕ) (rest : List Write) (s : State) → count (end (M.loading way n c x rest) s) ≡ entering (cellsOf way c)
 count-loading way n c x rest s = ap count (run-loading way n c x rest s) ∙ enters way c x
 
 -- ---- the eight instructions
@@ -145,13 +148,13 @@ closed (St o) s = simp (run-from, puts-storing, puts-short)
 closed (Lda o) s = simp (run-increment, run-loading, put-into, puts-short)
 closed (Sta o) s = simp (run-increment, run-from, puts-storing, puts-short)
 
-pub counted : (i : Address) (s : State) → entered (N.Address i) s ≡ cellsIn i (s .a)
-unfolding entered cellsIn baseOf
-counted (Set o) s = refl
-counted (Add o) s = refl
-counted (Bitop o) s = refl
-counted (Aadd o) s = refl
-counted (Ld o) s = count-loading (o .way) _ _ _ _ s
-counted (St o) s = ap count (run-from (o .way) (o .reg) _ s) ∙ enters (o .way) _ _
-counted (Lda o) s = ap count (run-increment (o .inc) _ s) ∙ count-loading (o .way) _ _ _ _ s
-counted (Sta o) s = ap count (run-increment (o .inc) _ s) ∙ ap count (run-from (o .way) (o .reg) _ s) ∙ enters (o .way) _ _
+pub counting : (i : Address) (s : State) → counted (N.Address i) s ≡ countsIn i (s .a)
+unfolding counted countsIn baseOf
+counting (Set o) s = refl
+counting (Add o) s = refl
+counting (Bitop o) s = refl
+counting (Aadd o) s = refl
+counting (Ld o) s = count-loading (o .way) _ _ _ _ s
+counting (St o) s = ap count (run-from (o .way) (o .reg) _ s) ∙ enters (o .way) _ _
+counting (Lda o) s = ap count (run-increment (o .inc) _ s) ∙ count-loading (o .way) _ _ _ _ s
+counting (Sta o) s = ap count (run-increment (o .inc) _ s) ∙ ap count (run-from (o .way) (o .reg) _ s) ∙ enters (o .way) _ _

@@ -6,7 +6,7 @@ use native.Mathlib.Omega.{arith}
 use borrow.Rule.Slice.PartMut.{putMid, post-is}
 use lib.ListN.{length, take, drop}
 use lib.Seq.{sets-eq, take-all}
-use Rattle.regs.specs.Regs.{vregOf, withVreg}
+use Rattle.pieces.specs.inner.Regs.{vregOf, withVreg}
 
 pub pasted : (v : List ℕ) (n : ℕ) (x : List ℕ) → 16 * n + 16 ≤ length v → length x ≡ 16 → putMid (16 * n) (16 * n + 16 - 16 * n) v x ≡ withVreg v n x
 unfolding withVreg

@@ -3,9 +3,9 @@ use mathlib.Core.Path.{_≡_, refl, ap}
 use mathlib.Core.List.{List}
 use Prim.Native.Nat.{ℕ, _+_, _*_, _/_, _%_}
 use native.Mathlib.Omega.{arith}
-use Rattle.words.specs.declared.Half.the-variants.{Low}
-use Rattle.regs.specs.declared.Base.{Base}
-use Rattle.regs.specs.Regs.{baseOf, withHalf, endAt}
+use Rattle.terms.specs.declared.Half.the-variants.{Low}
+use Rattle.pieces.specs.declared.Base.{Base}
+use Rattle.pieces.specs.inner.Regs.{baseOf, withHalf, endAt}
 
 high : (w x : ℕ) → (w / 65536 * 65536 + x % 65536 % 65536) / 65536 ≡ w / 65536
 high w x = omega arith

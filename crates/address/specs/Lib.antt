@@ -1,3 +1,2 @@
 -- What an address instruction makes of the five pieces that it may change.
-pub mod Effect
-pub mod Result
+pub mod inner

@@ -1,30 +1,32 @@
 // The address unit's instructions, each on the lent pieces that it may read or change. Each takes the word, so that only the fields that it
-// uses are cut from it, and hands back how many cells it entered.
+// uses are cut from it, and hands back what it counts.
 ghost use mathlib.Core.Path.{_≡_};
 ghost use mathlib.Core.List.{[]};
 ghost use Prim.Native.Nat.{_<_};
 ghost use lib.ListN.{length};
-ghost use Rattle.banks.specs.Line.{addresses, places};
-ghost use Rattle.banks.specs.declared.Way.the-variants.{Horizontal, Vertical, Scalar};
-ghost use Rattle.store.specs.Store.{loaded, stored};
-ghost use Rattle.words.specs.Bounded.{BoundedI};
+ghost use Rattle.banks.specs.Line.{addresses};
+ghost use Rattle.banks.specs.inner.Access.{places, cellsOf};
+ghost use Rattle.terms.specs.Counts.{entering};
+ghost use Rattle.terms.specs.declared.Way.the-variants.{Horizontal, Vertical, Scalar};
+ghost use Rattle.store.specs.inner.Loads.{loaded, stored};
+ghost use Rattle.words.specs.inner.Bounded.{BoundedI};
 ghost use Rattle.words.specs.Fields.{fieldsOf};
 ghost use Rattle.words.specs.Table.{setOf, addOf, aaddOf, bitopOf, ldOf, stOf, ldaOf, staOf};
-ghost use Rattle.words.specs.declared.Half.the-variants.{Low, High};
-ghost use Rattle.regs.specs.Regs.{plus, endAt, vregOf, withVreg};
-ghost use Rattle.address.specs.Effect.{five, baseIn, incOf, addrAt};
-ghost use Rattle.address.specs.Result.{result, resultOf};
-use banks::Way;
-use regs::Base;
+ghost use Rattle.terms.specs.declared.Half.the-variants.{Low, High};
+ghost use Rattle.pieces.specs.inner.Regs.{plus, endAt, vregOf, withVreg};
+ghost use Rattle.address.specs.inner.Effect.{five, baseIn, incOf, addrAt, result, resultOf};
+use pieces::Base;
+use terms::Counts;
+use terms::Half;
+use terms::Way;
 use words::AccessAdd;
-use words::Half;
 use words::Increment;
 
 fn base_at(a: &[u32], n: usize) -> Base
     requires { ⌜ n < length (now a) ⌝ }
     ensures { λ b. ⌜ (b ≡ baseIn (now (a .entry)) n) × (b .stride < 4) ⌝ }
 {
-    regs::base_of(a[n])
+    pieces::base_of(a[n])
 }
 
 fn increment(inc: Increment, a: &[u32]) -> u16
@@ -47,10 +49,10 @@ fn advance(n: usize, y: u16, cdst: usize, a: &mut [u32], c: &mut [u32])
         × (now (c .exit) ≡ endAt cdst (plus (baseIn (now (a .entry)) n .addr) y) (baseIn (now (a .entry)) n .limit) (now (c .entry))) ⌝ }
 {
     let old = a[n];
-    let new = regs::moved(old, y);
-    let b = regs::base_of(new);
+    let new = pieces::moved(old, y);
+    let b = pieces::base_of(new);
     a[n] = new;
-    regs::set_end(c, cdst, b.addr, b.limit);
+    pieces::set_end(c, cdst, b.addr, b.limit);
 }
 
 // $a[n] moved on after the access of ldav., ldas, stav. or stas.
@@ -69,7 +71,14 @@ fn mark_end(b: Base, uimm: u16, cdst: usize, c: &mut [u32])
     ensures { λ _. ⌜ now (c .exit) ≡ endAt cdst (plus (b .addr) uimm) (b .limit) (now (c .entry)) ⌝ }
 {
     let sum = std::num::wrapping_add_u16(b.addr, uimm);
-    regs::set_end(c, cdst, sum, b.limit);
+    pieces::set_end(c, cdst, sum, b.limit);
+}
+
+// What an access counts: the cells that it enters.
+fn entered(way: Way, code: usize) -> Counts
+    ensures { λ r. ⌜ r ≡ entering (cellsOf way code) ⌝ }
+{
+    terms::entering(banks::cells(way, code))
 }
 
 // A column loaded into $v[n], or stored from it.
@@ -89,29 +98,29 @@ fn column_out(n: usize, code: usize, x: usize, ds: &mut [u8], v: &[u8])
     store::store_column(ds, code, x, &v[at..at + 16]);
 }
 
-pub fn setlo(word: u32, a: &mut [u32]) -> u64
+pub fn setlo(word: u32, a: &mut [u32]) -> Counts
     requires { ⌜ (length (now a) ≡ 32) ⌝ }
     ensures { λ n. ⌜ result n (five [] (now (a .exit)) [] [] [])
         ≡ resultOf (setOf (fieldsOf word) Low) (five [] (now (a .entry)) [] [] []) ⌝ }
 {
     let f = words::cut(word);
     let n = f.dst;
-    a[n] = regs::with_half(Half::Low, f.half, a[n]);
-    0
+    a[n] = pieces::with_half(Half::Low, f.half, a[n]);
+    terms::no_counts()
 }
 
-pub fn sethi(word: u32, a: &mut [u32]) -> u64
+pub fn sethi(word: u32, a: &mut [u32]) -> Counts
     requires { ⌜ (length (now a) ≡ 32) ⌝ }
     ensures { λ n. ⌜ result n (five [] (now (a .exit)) [] [] [])
         ≡ resultOf (setOf (fieldsOf word) High) (five [] (now (a .entry)) [] [] []) ⌝ }
 {
     let f = words::cut(word);
     let n = f.dst;
-    a[n] = regs::with_half(Half::High, f.half, a[n]);
-    0
+    a[n] = pieces::with_half(Half::High, f.half, a[n]);
+    terms::no_counts()
 }
 
-pub fn add(word: u32, index: u32, a: &mut [u32], c: &mut [u32]) -> u64
+pub fn add(word: u32, index: u32, a: &mut [u32], c: &mut [u32]) -> Counts
     requires { ⌜ (length (now a) ≡ 32) × (length (now c) ≡ 4) × (index < 32) ⌝ }
     ensures { λ n. ⌜ result n (five [] (now (a .exit)) [] (now (c .exit)) [])
         ≡ resultOf (addOf (fieldsOf word) index) (five [] (now (a .entry)) [] (now (c .entry)) []) ⌝ }
@@ -121,11 +130,11 @@ pub fn add(word: u32, index: u32, a: &mut [u32], c: &mut [u32]) -> u64
     let src1 = f.src1;
     let res = std::num::wrapping_add_u32(a[src1], a[index as usize]);
     a[dst] = res;
-    regs::set_long(c, f.flags, res);
-    0
+    pieces::set_long(c, f.flags, res);
+    terms::no_counts()
 }
 
-pub fn aadd(word: u32, index: u32, a: &mut [u32], c: &mut [u32]) -> u64
+pub fn aadd(word: u32, index: u32, a: &mut [u32], c: &mut [u32]) -> Counts
     requires { ⌜ (length (now a) ≡ 32) × (length (now c) ≡ 4) × (index < 32) ⌝ }
     ensures { λ n. ⌜ result n (five [] (now (a .exit)) [] (now (c .exit)) [])
         ≡ resultOf (aaddOf (fieldsOf word) index) (five [] (now (a .entry)) [] (now (c .entry)) []) ⌝ }
@@ -133,10 +142,10 @@ pub fn aadd(word: u32, index: u32, a: &mut [u32], c: &mut [u32]) -> u64
     let f = words::cut(word);
     let y = base_at(a, index as usize);
     advance(f.dst, y.addr, f.flags, a, c);
-    0
+    terms::no_counts()
 }
 
-pub fn bitop(word: u32, a: &mut [u32], c: &mut [u32]) -> u64
+pub fn bitop(word: u32, a: &mut [u32], c: &mut [u32]) -> Counts
     requires { ⌜ (length (now a) ≡ 32) × (length (now c) ≡ 4) ⌝ }
     ensures { λ n. ⌜ result n (five [] (now (a .exit)) [] (now (c .exit)) [])
         ≡ resultOf (bitopOf (fieldsOf word)) (five [] (now (a .entry)) [] (now (c .entry)) []) ⌝ }
@@ -147,11 +156,11 @@ pub fn bitop(word: u32, a: &mut [u32], c: &mut [u32]) -> u64
     let src2 = f.src2;
     let res = bits::bitop32(f.bitop, a[src1], a[src2]);
     a[dst] = res;
-    regs::set_long(c, f.flags, res);
-    0
+    pieces::set_long(c, f.flags, res);
+    terms::no_counts()
 }
 
-pub fn ldvh(word: u32, ds: &[u8], a: &[u32], c: &mut [u32], v: &mut [u8]) -> u64
+pub fn ldvh(word: u32, ds: &[u8], a: &[u32], c: &mut [u32], v: &mut [u8]) -> Counts
     requires { ⌜ (length (now ds) ≡ 8192) × (length (now a) ≡ 32) × (length (now c) ≡ 4) × (length (now v) ≡ 512) ⌝ }
     ensures { λ n. ⌜ result n (five (now (ds .entry)) (now (a .entry)) [] (now (c .exit)) (now (v .exit)))
         ≡ resultOf (ldOf (fieldsOf word) Horizontal) (five (now (ds .entry)) (now (a .entry)) [] (now (c .entry)) (now (v .entry))) ⌝ }
@@ -159,12 +168,12 @@ pub fn ldvh(word: u32, ds: &[u8], a: &[u32], c: &mut [u32], v: &mut [u8]) -> u64
     let f = words::cut(word);
     let b = base_at(a, f.src1);
     let x = banks::joined(b.addr, f.uimm);
-    regs::set_vreg(v, f.dst, store::load_row(ds, b.stride, x as usize));
+    pieces::set_vreg(v, f.dst, store::load_row(ds, b.stride, x as usize));
     mark_end(b, f.uimm, f.flags, c);
-    banks::cells(Way::Horizontal, b.stride)
+    entered(Way::Horizontal, b.stride)
 }
 
-pub fn ldvv(word: u32, ds: &[u8], a: &[u32], c: &mut [u32], v: &mut [u8]) -> u64
+pub fn ldvv(word: u32, ds: &[u8], a: &[u32], c: &mut [u32], v: &mut [u8]) -> Counts
     requires { ⌜ (length (now ds) ≡ 8192) × (length (now a) ≡ 32) × (length (now c) ≡ 4) × (length (now v) ≡ 512) ⌝ }
     ensures { λ n. ⌜ result n (five (now (ds .entry)) (now (a .entry)) [] (now (c .exit)) (now (v .exit)))
         ≡ resultOf (ldOf (fieldsOf word) Vertical) (five (now (ds .entry)) (now (a .entry)) [] (now (c .entry)) (now (v .entry))) ⌝ }
@@ -174,10 +183,10 @@ pub fn ldvv(word: u32, ds: &[u8], a: &[u32], c: &mut [u32], v: &mut [u8]) -> u64
     let x = banks::joined(b.addr, f.uimm);
     column_in(f.dst, b.stride, x as usize, ds, v);
     mark_end(b, f.uimm, f.flags, c);
-    banks::cells(Way::Vertical, b.stride)
+    entered(Way::Vertical, b.stride)
 }
 
-pub fn lds(word: u32, ds: &[u8], a: &[u32], c: &mut [u32], r: &mut [u32]) -> u64
+pub fn lds(word: u32, ds: &[u8], a: &[u32], c: &mut [u32], r: &mut [u32]) -> Counts
     requires { ⌜ (length (now ds) ≡ 8192) × (length (now a) ≡ 32) × (length (now c) ≡ 4) × (length (now r) ≡ 32) ⌝ }
     ensures { λ n. ⌜ result n (five (now (ds .entry)) (now (a .entry)) (now (r .exit)) (now (c .exit)) [])
         ≡ resultOf (ldOf (fieldsOf word) Scalar) (five (now (ds .entry)) (now (a .entry)) (now (r .entry)) (now (c .entry)) []) ⌝ }
@@ -188,10 +197,10 @@ pub fn lds(word: u32, ds: &[u8], a: &[u32], c: &mut [u32], r: &mut [u32]) -> u64
     let n = f.dst;
     r[n] = store::load_word(ds, b.stride, x as usize);
     mark_end(b, f.uimm, f.flags, c);
-    banks::cells(Way::Scalar, b.stride)
+    entered(Way::Scalar, b.stride)
 }
 
-pub fn stvh(word: u32, ds: &mut [u8], a: &[u32], c: &mut [u32], v: &[u8]) -> u64
+pub fn stvh(word: u32, ds: &mut [u8], a: &[u32], c: &mut [u32], v: &[u8]) -> Counts
     requires { ⌜ (length (now ds) ≡ 8192) × (length (now a) ≡ 32) × (length (now c) ≡ 4) × (length (now v) ≡ 512) ⌝ }
     ensures { λ n. ⌜ result n (five (now (ds .exit)) (now (a .entry)) [] (now (c .exit)) (now (v .entry)))
         ≡ resultOf (stOf (fieldsOf word) Horizontal) (five (now (ds .entry)) (now (a .entry)) [] (now (c .entry)) (now (v .entry))) ⌝ }
@@ -199,12 +208,12 @@ pub fn stvh(word: u32, ds: &mut [u8], a: &[u32], c: &mut [u32], v: &[u8]) -> u64
     let f = words::cut(word);
     let b = base_at(a, f.dst);
     let x = banks::joined(b.addr, f.uimm);
-    store::store_row(ds, b.stride, x as usize, regs::vreg(v, f.src1));
+    store::store_row(ds, b.stride, x as usize, pieces::vreg(v, f.src1));
     mark_end(b, f.uimm, f.flags, c);
-    banks::cells(Way::Horizontal, b.stride)
+    entered(Way::Horizontal, b.stride)
 }
 
-pub fn stvv(word: u32, ds: &mut [u8], a: &[u32], c: &mut [u32], v: &[u8]) -> u64
+pub fn stvv(word: u32, ds: &mut [u8], a: &[u32], c: &mut [u32], v: &[u8]) -> Counts
     requires { ⌜ (length (now ds) ≡ 8192) × (length (now a) ≡ 32) × (length (now c) ≡ 4) × (length (now v) ≡ 512) ⌝ }
     ensures { λ n. ⌜ result n (five (now (ds .exit)) (now (a .entry)) [] (now (c .exit)) (now (v .entry)))
         ≡ resultOf (stOf (fieldsOf word) Vertical) (five (now (ds .entry)) (now (a .entry)) [] (now (c .entry)) (now (v .entry))) ⌝ }
@@ -214,10 +223,10 @@ pub fn stvv(word: u32, ds: &mut [u8], a: &[u32], c: &mut [u32], v: &[u8]) -> u64
     let x = banks::joined(b.addr, f.uimm);
     column_out(f.src1, b.stride, x as usize, ds, v);
     mark_end(b, f.uimm, f.flags, c);
-    banks::cells(Way::Vertical, b.stride)
+    entered(Way::Vertical, b.stride)
 }
 
-pub fn sts(word: u32, ds: &mut [u8], a: &[u32], c: &mut [u32], r: &[u32]) -> u64
+pub fn sts(word: u32, ds: &mut [u8], a: &[u32], c: &mut [u32], r: &[u32]) -> Counts
     requires { ⌜ (length (now ds) ≡ 8192) × (length (now a) ≡ 32) × (length (now c) ≡ 4) × (length (now r) ≡ 32) ⌝ }
     ensures { λ n. ⌜ result n (five (now (ds .exit)) (now (a .entry)) (now (r .entry)) (now (c .exit)) [])
         ≡ resultOf (stOf (fieldsOf word) Scalar) (five (now (ds .entry)) (now (a .entry)) (now (r .entry)) (now (c .entry)) []) ⌝ }
@@ -228,10 +237,10 @@ pub fn sts(word: u32, ds: &mut [u8], a: &[u32], c: &mut [u32], r: &[u32]) -> u64
     let n = f.src1;
     store::store_word(ds, b.stride, x as usize, r[n]);
     mark_end(b, f.uimm, f.flags, c);
-    banks::cells(Way::Scalar, b.stride)
+    entered(Way::Scalar, b.stride)
 }
 
-pub fn ldavh(o: AccessAdd, ds: &[u8], a: &mut [u32], c: &mut [u32], v: &mut [u8]) -> u64
+pub fn ldavh(o: AccessAdd, ds: &[u8], a: &mut [u32], c: &mut [u32], v: &mut [u8]) -> Counts
     requires { ⌜ (length (now ds) ≡ 8192) × (length (now a) ≡ 32) × (length (now c) ≡ 4) × (length (now v) ≡ 512) × BoundedI (o .inc) ⌝ }
     ensures { λ n. ⌜ result n (five (now (ds .entry)) (now (a .exit)) [] (now (c .exit)) (now (v .exit)))
         ≡ resultOf (ldaOf (fieldsOf (o .bits)) Horizontal (o .inc)) (five (now (ds .entry)) (now (a .entry)) [] (now (c .entry)) (now (v .entry))) ⌝ }
@@ -239,12 +248,12 @@ pub fn ldavh(o: AccessAdd, ds: &[u8], a: &mut [u32], c: &mut [u32], v: &mut [u8]
     let f = words::cut(o.bits);
     let inc = o.inc;
     let b = base_at(a, f.src1);
-    regs::set_vreg(v, f.dst, store::load_row(ds, b.stride, b.addr as usize));
+    pieces::set_vreg(v, f.dst, store::load_row(ds, b.stride, b.addr as usize));
     move_on(f.src1, inc, f.flags, a, c);
-    banks::cells(Way::Horizontal, b.stride)
+    entered(Way::Horizontal, b.stride)
 }
 
-pub fn ldavv(o: AccessAdd, ds: &[u8], a: &mut [u32], c: &mut [u32], v: &mut [u8]) -> u64
+pub fn ldavv(o: AccessAdd, ds: &[u8], a: &mut [u32], c: &mut [u32], v: &mut [u8]) -> Counts
     requires { ⌜ (length (now ds) ≡ 8192) × (length (now a) ≡ 32) × (length (now c) ≡ 4) × (length (now v) ≡ 512) × BoundedI (o .inc) ⌝ }
     ensures { λ n. ⌜ result n (five (now (ds .entry)) (now (a .exit)) [] (now (c .exit)) (now (v .exit)))
         ≡ resultOf (ldaOf (fieldsOf (o .bits)) Vertical (o .inc)) (five (now (ds .entry)) (now (a .entry)) [] (now (c .entry)) (now (v .entry))) ⌝ }
@@ -254,10 +263,10 @@ pub fn ldavv(o: AccessAdd, ds: &[u8], a: &mut [u32], c: &mut [u32], v: &mut [u8]
     let b = base_at(a, f.src1);
     column_in(f.dst, b.stride, b.addr as usize, ds, v);
     move_on(f.src1, inc, f.flags, a, c);
-    banks::cells(Way::Vertical, b.stride)
+    entered(Way::Vertical, b.stride)
 }
 
-pub fn ldas(o: AccessAdd, ds: &[u8], a: &mut [u32], c: &mut [u32], r: &mut [u32]) -> u64
+pub fn ldas(o: AccessAdd, ds: &[u8], a: &mut [u32], c: &mut [u32], r: &mut [u32]) -> Counts
     requires { ⌜ (length (now ds) ≡ 8192) × (length (now a) ≡ 32) × (length (now c) ≡ 4) × (length (now r) ≡ 32) × BoundedI (o .inc) ⌝ }
     ensures { λ n. ⌜ result n (five (now (ds .entry)) (now (a .exit)) (now (r .exit)) (now (c .exit)) [])
         ≡ resultOf (ldaOf (fieldsOf (o .bits)) Scalar (o .inc)) (five (now (ds .entry)) (now (a .entry)) (now (r .entry)) (now (c .entry)) []) ⌝ }
@@ -268,10 +277,10 @@ pub fn ldas(o: AccessAdd, ds: &[u8], a: &mut [u32], c: &mut [u32], r: &mut [u32]
     let n = f.dst;
     r[n] = store::load_word(ds, b.stride, b.addr as usize);
     move_on(f.src1, inc, f.flags, a, c);
-    banks::cells(Way::Scalar, b.stride)
+    entered(Way::Scalar, b.stride)
 }
 
-pub fn stavh(o: AccessAdd, ds: &mut [u8], a: &mut [u32], c: &mut [u32], v: &[u8]) -> u64
+pub fn stavh(o: AccessAdd, ds: &mut [u8], a: &mut [u32], c: &mut [u32], v: &[u8]) -> Counts
     requires { ⌜ (length (now ds) ≡ 8192) × (length (now a) ≡ 32) × (length (now c) ≡ 4) × (length (now v) ≡ 512) × BoundedI (o .inc) ⌝ }
     ensures { λ n. ⌜ result n (five (now (ds .exit)) (now (a .exit)) [] (now (c .exit)) (now (v .entry)))
         ≡ resultOf (staOf (fieldsOf (o .bits)) Horizontal (o .inc)) (five (now (ds .entry)) (now (a .entry)) [] (now (c .entry)) (now (v .entry))) ⌝ }
@@ -279,12 +288,12 @@ pub fn stavh(o: AccessAdd, ds: &mut [u8], a: &mut [u32], c: &mut [u32], v: &[u8]
     let f = words::cut(o.bits);
     let inc = o.inc;
     let b = base_at(a, f.dst);
-    store::store_row(ds, b.stride, b.addr as usize, regs::vreg(v, f.src1));
+    store::store_row(ds, b.stride, b.addr as usize, pieces::vreg(v, f.src1));
     move_on(f.dst, inc, f.flags, a, c);
-    banks::cells(Way::Horizontal, b.stride)
+    entered(Way::Horizontal, b.stride)
 }
 
-pub fn stavv(o: AccessAdd, ds: &mut [u8], a: &mut [u32], c: &mut [u32], v: &[u8]) -> u64
+pub fn stavv(o: AccessAdd, ds: &mut [u8], a: &mut [u32], c: &mut [u32], v: &[u8]) -> Counts
     requires { ⌜ (length (now ds) ≡ 8192) × (length (now a) ≡ 32) × (length (now c) ≡ 4) × (length (now v) ≡ 512) × BoundedI (o .inc) ⌝ }
     ensures { λ n. ⌜ result n (five (now (ds .exit)) (now (a .exit)) [] (now (c .exit)) (now (v .entry)))
         ≡ resultOf (staOf (fieldsOf (o .bits)) Vertical (o .inc)) (five (now (ds .entry)) (now (a .entry)) [] (now (c .entry)) (now (v .entry))) ⌝ }
@@ -294,10 +303,10 @@ pub fn stavv(o: AccessAdd, ds: &mut [u8], a: &mut [u32], c: &mut [u32], v: &[u8]
     let b = base_at(a, f.dst);
     column_out(f.src1, b.stride, b.addr as usize, ds, v);
     move_on(f.dst, inc, f.flags, a, c);
-    banks::cells(Way::Vertical, b.stride)
+    entered(Way::Vertical, b.stride)
 }
 
-pub fn stas(o: AccessAdd, ds: &mut [u8], a: &mut [u32], c: &mut [u32], r: &[u32]) -> u64
+pub fn stas(o: AccessAdd, ds: &mut [u8], a: &mut [u32], c: &mut [u32], r: &[u32]) -> Counts
     requires { ⌜ (length (now ds) ≡ 8192) × (length (now a) ≡ 32) × (length (now c) ≡ 4) × (length (now r) ≡ 32) × BoundedI (o .inc) ⌝ }
     ensures { λ n. ⌜ result n (five (now (ds .exit)) (now (a .exit)) (now (r .entry)) (now (c .exit)) [])
         ≡ resultOf (staOf (fieldsOf (o .bits)) Scalar (o .inc)) (five (now (ds .entry)) (now (a .entry)) (now (r .entry)) (now (c .entry)) []) ⌝ }
@@ -308,5 +317,5 @@ pub fn stas(o: AccessAdd, ds: &mut [u8], a: &mut [u32], c: &mut [u32], r: &[u32]
     let n = f.src1;
     store::store_word(ds, b.stride, b.addr as usize, r[n]);
     move_on(f.dst, inc, f.flags, a, c);
-    banks::cells(Way::Scalar, b.stride)
+    entered(Way::Scalar, b.stride)
 }

@@ -6,9 +6,10 @@ use Prim.Native.Nat.{ℕ, zero, suc, _+_, _*_, _-_, _/_, _%_, _≤_, _<_}
 use native.Mathlib.Omega.{arith}
 use lib.Dec.{lit≤}
 use Rattle.banks.specs.Bank.{bankOf, bankAt, at, pairOf}
-use Rattle.banks.specs.Line.{line, strideOf, rowStart, wordStart, columnStart, has, distinct, addresses, cellsOf, startOf, stepOf}
-use Rattle.banks.specs.declared.Way.{Way}
-use Rattle.banks.specs.declared.Way.the-variants.{Horizontal, Vertical, Scalar}
+use Rattle.banks.specs.Line.{line, strideOf, rowStart, wordStart, columnStart, has, distinct, addresses, startOf, stepOf}
+use Rattle.banks.specs.inner.Access.{cellsOf}
+use Rattle.terms.specs.declared.Way.{Way}
+use Rattle.terms.specs.declared.Way.the-variants.{Horizontal, Vertical, Scalar}
 use Rattle.banks.proofs.OneToOne.{cell-lt, one-to-one, at-coords}
 use Rattle.banks.proofs.Distinct.{line-distinct, line-has, two-and-two}
 use Rattle.banks.proofs.Banks.{row-bank, column-bank, column0-bank, column0-cell}

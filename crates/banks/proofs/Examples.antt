@@ -4,7 +4,7 @@ use mathlib.Core.List.{List, [], _∷_, map}
 use Prim.Native.Nat.{ℕ}
 use Rattle.banks.specs.Bank.{cellOf, hiloOf, bankOf, turnOf, pairOf}
 use Rattle.banks.specs.Line.{line, addresses, startOf, stepOf, columnStart, strideOf, distinct}
-use Rattle.banks.specs.declared.Way.the-variants.{Vertical}
+use Rattle.terms.specs.declared.Way.the-variants.{Vertical}
 
 pub banks-of : ℕ → List ℕ
 banks-of a = bankOf 0 a ∷ bankOf 1 a ∷ bankOf 2 a ∷ bankOf 3 a ∷ []

@@ -7,8 +7,9 @@ use native.Mathlib.Nat.{mod-lt, mod-eq-of-lt, div-add-mod', div-div-eq-div-mul, 
 use lib.Bits.{bitAnd, bitXor, and-block, and-mask}
 use lib.Pow.{split, pow-pos, ones-lt, pow-mono}
 use Rattle.banks.specs.Bank.{hiloOf, cellOf, turnOf, bankOf, placeOf, at}
-use Rattle.banks.specs.Line.{strideOf, rowStart, wordStart, columnStart, cellsOf}
-use Rattle.banks.specs.declared.Way.the-variants.{Vertical}
+use Rattle.banks.specs.Line.{strideOf, rowStart, wordStart, columnStart}
+use Rattle.banks.specs.inner.Access.{cellsOf}
+use Rattle.terms.specs.declared.Way.the-variants.{Vertical}
 
 -- a mask of m low bits, and of j bits from bit k on
 pub and-two : (a j k m : ℕ) → m ≤ k → bitAnd a ((2 ^ j - 1) * 2 ^ k + (2 ^ m - 1)) ≡ a / 2 ^ k % 2 ^ j * 2 ^ k + a % 2 ^ k % 2 ^ m

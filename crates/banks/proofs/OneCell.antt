@@ -10,8 +10,8 @@ use lib.Dec.{eqb, lit≤}
 use borrow.Author.Tests.{eqb-true}
 use Rattle.banks.specs.Bank.{cellOf, bankOf, hiloOf}
 use Rattle.banks.specs.Line.{from, line, rowStart, wordStart, has, distinct, addresses, startOf, stepOf, countOf}
-use Rattle.banks.specs.declared.Way.{Way}
-use Rattle.banks.specs.declared.Way.the-variants.{Horizontal, Vertical, Scalar}
+use Rattle.terms.specs.declared.Way.{Way}
+use Rattle.terms.specs.declared.Way.the-variants.{Horizontal, Vertical, Scalar}
 use Rattle.banks.proofs.Banks.{row-bank, column-bank, column0-bank, column0-cell, column0-hilo}
 use Rattle.banks.proofs.Counts.{slot, apart, horizontal-banks, vertical-banks, vertical0-enters, scalar-enters}
 

@@ -6,8 +6,8 @@ use native.Mathlib.Omega.{arith}
 use native.Mathlib.Nat.{add-zero, add-suc, suc-add, not-suc-le-zero, le-of-suc-le-suc}
 use lib.ListN.{length, getD}
 use Rattle.banks.specs.Line.{from, strideOf, rowStart, wordStart, columnStart, startOf, stepOf, countOf}
-use Rattle.banks.specs.declared.Way.{Way}
-use Rattle.banks.specs.declared.Way.the-variants.{Horizontal, Vertical, Scalar}
+use Rattle.terms.specs.declared.Way.{Way}
+use Rattle.terms.specs.declared.Way.the-variants.{Horizontal, Vertical, Scalar}
 
 pub length-from : (s n : ℕ) → length (from s n) ≡ n
 length-from s zero = refl

@@ -3,14 +3,9 @@ ghost use mathlib.Core.Path.{_≡_};
 ghost use Prim.Native.Nat.{_<_};
 ghost use lib.Bits.{bitOr};
 ghost use Rattle.banks.specs.Bank.{turnOf, bankOf};
-ghost use Rattle.banks.specs.Line.{startOf, stepOf, cellsOf};
-
-// How an access goes: along a row, down a column, or over the four bytes of a word.
-pub enum Way {
-    Horizontal,
-    Vertical,
-    Scalar,
-}
+ghost use Rattle.banks.specs.Line.{startOf, stepOf};
+ghost use Rattle.banks.specs.inner.Access.{cellsOf};
+use terms::Way;
 
 // What the low four bits of an address are moved on by.
 fn turn(code: usize, addr: usize) -> usize

@@ -1,7 +1,7 @@
 // Prints, for each stride code, the banks of the sixteen addresses of a vertical load at 0, worked out by the library.
 ghost use Prim.Native.Nat.{_<_};
-use banks::Way;
 use libc::STDOUT_FILENO;
+use terms::Way;
 
 // The bank of the load's address i.
 fn bank_at(code: usize, i: usize) -> usize

@@ -9,7 +9,7 @@ use lib.Dec.{ltb, leb}
 use lib.ListN.{getD}
 use borrow.Author.Tests.{ltb-true, ltb-false, lt-leb, le-leb}
 use Rattle.lanes.specs.Lanes.{flags}
-use Rattle.lanes.specs.Marks.{topsOf, eight}
+use Rattle.lanes.specs.inner.Unpacked.{topsOf, eight}
 
 pub flags-same : (n : ℕ) (g h : ℕ → Bool) → ((i : ℕ) → i < n → g i ≡ h i) → flags n g ≡ flags n h
 unfolding flags

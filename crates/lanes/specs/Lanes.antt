@@ -4,10 +4,10 @@ use mathlib.Core.List.{List, [], _∷_, _++_}
 use Prim.Native.Nat.{ℕ, zero, suc, _+_, _*_, _-_, _/_, _%_, _^_}
 use lib.Dec.{eqb, ltb}
 use lib.ListN.{getD}
+use Rattle.lane.specs.declared.Calc.{Calc}
+use Rattle.lane.specs.declared.Logic.{Logic}
+use Rattle.lane.specs.Lane.{Lane, arithLane, shiftLane, clipLane, minAbsLane, add9Lane, bitopLane, logicLane, movLane, movImmLane, cmpadLane}
 use Rattle.lanes.specs.declared.Flags.{Flags}
-use Rattle.lanes.specs.declared.Calc.{Calc}
-use Rattle.lanes.specs.declared.Logic.{Logic}
-use Rattle.lanes.specs.Lane.{Lane, arithLane, shiftLane, clipLane, minAbsLane, add9Lane, bitopLane, logicLane, movLane, movImmLane, cmpadLane}
 
 -- f 0, f 1, .. , f (n - 1)
 unfoldable pub listed : ℕ → (ℕ → ℕ) → List ℕ

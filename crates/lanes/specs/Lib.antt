@@ -1,4 +1,3 @@
--- The vector unit's component operations.
-pub mod Lane
+-- Sixteen components at a time.
 pub mod Lanes
-pub mod Marks
+pub mod inner

@@ -2,7 +2,7 @@
 ghost use mathlib.Core.Path.{_≡_};
 ghost use mathlib.Core.Bool.{cond};
 ghost use Prim.Native.Nat.{_+_, _*_, _<_};
-ghost use Rattle.lanes.specs.Marks.{zerosOf, topsOf, two, four, eight};
+ghost use Rattle.lanes.specs.inner.Unpacked.{zerosOf, topsOf, two, four, eight};
 
 fn bit(t: bool) -> u16
     ensures { λ r. ⌜ (r ≡ cond t 1 0) × (r < 2) ⌝ }

@@ -1,5 +1,4 @@
 // Runs a listing step by step, and asks of each two neighbours whether they may be swapped: docs/LISTING.md says what is read and written.
-mod calls;
 mod cells;
 mod names;
 mod report;

@@ -1,6 +1,6 @@
 // Places, counts and refusals in words.
-use draws::print::text;
 use libc::STDOUT_FILENO;
+use text::print::text;
 
 pub fn decimal(n: u64) {
     io::print_decimal(STDOUT_FILENO, n);
@@ -53,7 +53,8 @@ fn reason(answer: u32) {
         1 => text(b"opcode below 0x80 or above 0xdf"),
         2 => text(b"opcode not documented"),
         3 => text(b"side index above 31"),
-        _ => text(b"side mask word above 0x1ffff"),
+        4 => text(b"side mask word above 0x1ffff"),
+        _ => text(b"another reason"),
     }
 }
 

@@ -1,5 +1,5 @@
 // The numbers of the listing's text, read byte by byte.
-use draws::digits;
+use text::digits;
 
 // What may be wrong with a listing, as a number: GOOD where nothing is.
 pub const GOOD: u32 = 0;

@@ -1,13 +1,18 @@
 // The run of a listing, from a state of zeros, and the lines that it writes.
 ghost use Prim.Native.Nat.{_≤_, _<_};
-use crate::calls;
-use crate::calls::Stepped;
 use crate::cells;
 use crate::names;
-use draws::print;
-use draws::print::text;
-use queries::Swap;
-use queries::Triple;
+use swap::Swap;
+use swap::Verdict;
+use text::print;
+use text::print::text;
+
+// The instruction word, the side index and the side mask word.
+struct Triple {
+    word: u32,
+    side: u32,
+    mask: u32,
+}
 
 // Where the run stands: the steps done, their cell accesses, and whether a step was refused.
 struct Total {
@@ -39,32 +44,42 @@ fn print_triple(i: usize, t: Triple)
     text(b": ");
 }
 
-fn print_swap(s: Swap) {
-    text(b"; with the next: ");
-    if s.answer != 0 {
-        names::refused(s.answer);
-        return;
-    }
-    if s.clash == 0 {
-        text(b"free");
-        return;
-    }
+fn print_clash(place: u32, writer: u32) {
     text(b"clash at ");
-    names::place(s.place);
-    if s.writer == 1 {
+    names::place(place);
+    if writer == 1 {
         text(b", which the first writes");
     } else {
         text(b", which the second writes");
     }
 }
 
+fn print_verdict(v: Verdict) {
+    match v {
+        Verdict::Free => text(b"free"),
+        Verdict::Clash(place, writer) => print_clash(place, writer),
+    }
+}
+
+fn print_swap(s: Swap) {
+    text(b"; with the next: ");
+    let end = s.end;
+    let answer = terms::number(end);
+    if answer != 0 {
+        names::refused(answer);
+        return;
+    }
+    let verdict = s.verdict;
+    print_verdict(verdict);
+}
+
 // The answer of a step, with what was said of it and the next one, if there is one.
-fn print_answer(x: Stepped, followed: bool, s: Swap) {
-    if x.answer != 0 {
-        names::refused(x.answer);
+fn print_answer(answer: u32, cells: u64, followed: bool, s: Swap) {
+    if answer != 0 {
+        names::refused(answer);
     } else {
         text(b"done, ");
-        names::counted(x.cells, b" cell");
+        names::counted(cells, b" cell");
         if followed {
             print_swap(s);
         }
@@ -73,21 +88,20 @@ fn print_answer(x: Stepped, followed: bool, s: Swap) {
 }
 
 // Wrapping, since a bound on the counts is of no use to any caller: there are at most 256 steps, each with at most 16 cells.
-fn more(total: Total, x: Stepped) -> Total {
+fn more(total: Total, answer: u32, cells: u64) -> Total {
     let mut after = total;
-    if x.answer != 0 {
+    if answer != 0 {
         after.stopped = true;
         return after;
     }
     after.steps = std::num::wrapping_add_u32(total.steps, 1);
-    after.cells = std::num::wrapping_add_u64(total.cells, x.cells);
+    after.cells = std::num::wrapping_add_u64(total.cells, cells);
     after
 }
 
-// Step i, and the question about it and the step `next`, which is met in the same state.
+// One step, and the question about it and the step `next`, which is met in the same state.
 fn one_step(
     total: Total,
-    i: usize,
     t: Triple,
     followed: bool,
     next: Triple,
@@ -98,16 +112,30 @@ fn one_step(
     c: &mut [u32; 4],
     vc: &mut [u32; 4],
     v: &mut [u8; 512],
-) -> Total
-    requires { ⌜ i < 256 ⌝ }
-{
-    print_triple(i, t);
-    let s = queries::may_swap(t, next, ds, a, r, c, vc, v);
-    let places = calls::places(t, ds, a, r, c, vc, v);
+) -> Total {
+    let s = swap::may_swap(
+        t.word,
+        t.side,
+        t.mask,
+        next.word,
+        next.side,
+        next.mask,
+        ds,
+        a,
+        r,
+        c,
+        vc,
+        v,
+    );
+    // Every entry past its places stays 0, which is no place of the store.
+    let mut places = [0u32; 22];
+    swap::places(t.word, t.side, t.mask, ds, a, r, c, vc, v, &mut places);
     cells::count(banks, &places);
-    let x = calls::step(t, ds, a, r, c, vc, v);
-    print_answer(x, followed, s);
-    more(total, x)
+    let x = machine::step(t.word, t.side, t.mask, ds, a, r, c, vc, v);
+    let end = x.end;
+    let answer = terms::number(end);
+    print_answer(answer, x.counts.accesses, followed, s);
+    more(total, answer, x.counts.accesses)
 }
 
 fn print_end(total: Total, banks: &[u32; 16]) {
@@ -144,10 +172,11 @@ pub fn run(words: &[u32; 768], n: usize)
     };
     for i in 0..n {
         let next = next_of(i, n);
+        let t = triple_at(words, i);
+        print_triple(i, t);
         total = one_step(
             total,
-            i,
-            triple_at(words, i),
+            t,
             next != i,
             triple_at(words, next),
             &mut banks,

@@ -1,4 +1,3 @@
 -- The laws that the proofs of the functions rest on, and that only one outcome fits a call.
-pub mod Single
 pub mod Turn
 pub mod Unique

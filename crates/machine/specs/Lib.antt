@@ -1,2 +1,3 @@
--- The paper's number and values for each answer.
+-- What each answer stands for. What `inner` holds is inner to the code.
 pub mod Answers
+pub mod inner

@@ -4,52 +4,33 @@ ghost use mathlib.Core.Bool.{cond};
 ghost use Prim.Native.Nat.{_%_};
 ghost use lib.Dec.{ltb};
 ghost use lib.ListN.{length};
-ghost use Rattle.model.specs.State.{pieces, Sized};
+ghost use Rattle.pieces.specs.State.{pieces, Sized};
 ghost use Rattle.model.specs.Step.{stepOf};
-ghost use Rattle.model.specs.Run.{runFrom, runOf};
-ghost use Rattle.machine.specs.Answers.{stepOutcome, runOutcome, coveredBy, toStep, toEnd, ranOf};
-use words::Answer;
-use words::Refusal;
+ghost use Rattle.model.specs.Run.{triples, runFrom, runOf};
+ghost use Rattle.terms.specs.Counts.{none};
+ghost use Rattle.machine.specs.Answers.{stepOutcome, runOutcome};
+ghost use Rattle.machine.specs.inner.Turns.{coveredBy, ranOf};
+use terms::Answer;
+use terms::Counts;
+use terms::End;
 
-// The single call's answer.
-pub enum Stepped {
-    Done(u64),
-    Lengths,
-    Refused(Refusal),
+// What the single call came to.
+pub struct Stepped {
+    pub end: End,
+    pub counts: Counts,
 }
 
-// Why a list call came to its end.
-pub enum End {
-    All,
-    Lengths,
-    Ragged,
-    Refused(Refusal),
-    Spent,
-}
-
+// What a list call came to.
 pub struct Ran {
     pub end: End,
     pub steps: u32,
-    pub accesses: u64,
+    pub counts: Counts,
 }
 
-fn to_end(x: Answer) -> End
-    ensures { λ r. ⌜ r ≡ toEnd x ⌝ }
+fn report(end: End, steps: u32, counts: Counts) -> Ran
+    ensures { λ x. ⌜ x ≡ ranOf end steps counts ⌝ }
 {
-    match x {
-        Answer::Done(_) => End::All,
-        Answer::Refused(k) => End::Refused(k),
-    }
-}
-
-fn report(end: End, steps: u32, accesses: u64) -> Ran
-    ensures { λ x. ⌜ x ≡ ranOf end steps accesses ⌝ }
-{
-    Ran {
-        end,
-        steps,
-        accesses,
-    }
+    Ran { end, steps, counts }
 }
 
 // How many of a list's words the budget covers: three for each step.
@@ -63,9 +44,9 @@ fn covered(count: usize, budget: u32) -> usize
 
 // Why a run came to its end that did n of a list's words.
 fn ending(n: usize, count: usize) -> End
-    ensures { λ r. ⌜ r ≡ cond (ltb n count) End.Spent End.All ⌝ }
+    ensures { λ r. ⌜ r ≡ cond (ltb n count) End.Spent End.Done ⌝ }
 {
-    if n < count { End::Spent } else { End::All }
+    if n < count { End::Spent } else { End::Done }
 }
 
 // The loop over the triples, where the lengths are right. It stands in a function of its own: in one that also returns early its calls count as cold.
@@ -81,20 +62,20 @@ fn turns(
 ) -> Ran
     requires { ⌜ Sized (pieces ds a r c vc v) × (length (now words) % 3 ≡ 0) ⌝ }
     ensures { λ x. ⌜ runOutcome x (pieces (ds .exit) (a .exit) (r .exit) (c .exit) (vc .exit) (v .exit))
-        ≡ runFrom budget (now (words .entry)) 0 0 (pieces (ds .entry) (a .entry) (r .entry) (c .entry) (vc .entry) (v .entry)) ⌝ }
+        ≡ runFrom budget (triples (now (words .entry))) 0 none (pieces (ds .entry) (a .entry) (r .entry) (c .entry) (vc .entry) (v .entry)) ⌝ }
 {
     let end = covered(words.len(), budget);
-    let mut accesses: u64 = 0;
+    let mut counts = terms::no_counts();
     let mut i: usize = 0;
     while i < end {
         let x = units::triple(words[i], words[i + 1], words[i + 2], ds, a, r, c, vc, v);
         let Answer::Done(n) = x else {
-            return report(to_end(x), (i / 3) as u32, accesses);
+            return report(terms::end_of(x), (i / 3) as u32, counts);
         };
-        accesses += n;
+        counts = terms::sum(counts, n);
         i += 3;
     }
-    report(ending(i, words.len()), (i / 3) as u32, accesses)
+    report(ending(i, words.len()), (i / 3) as u32, counts)
 }
 
 // Why a list is not begun: the lengths are looked at before the number of words.
@@ -118,26 +99,12 @@ pub fn run(
     ensures { λ x. ⌜ runOutcome x (pieces (ds .exit) (a .exit) (r .exit) (c .exit) (vc .exit) (v .exit))
         ≡ runOf budget (now (words .entry)) (pieces (ds .entry) (a .entry) (r .entry) (c .entry) (vc .entry) (v .entry)) ⌝ }
 {
-    let sized = regs::sized(ds.len(), a.len(), r.len(), c.len(), vc.len(), v.len());
+    let sized = pieces::sized(ds.len(), a.len(), r.len(), c.len(), vc.len(), v.len());
     let whole = words.len() % 3 == 0;
     if sized & whole {
         return turns(words, budget, ds, a, r, c, vc, v);
     }
-    report(unfit(sized), 0, 0)
-}
-
-// What a list of one triple came to; with a budget of 1 it ends neither ragged nor spent.
-fn one_step(x: Ran) -> Stepped
-    ensures { λ r. ⌜ r ≡ toStep x ⌝ }
-{
-    let end = x.end;
-    match end {
-        End::All => Stepped::Done(x.accesses),
-        End::Refused(k) => Stepped::Refused(k),
-        End::Lengths => Stepped::Lengths,
-        End::Ragged => Stepped::Lengths,
-        End::Spent => Stepped::Lengths,
-    }
+    report(unfit(sized), 0, terms::no_counts())
 }
 
 // The single call: a list of one triple, so that the code for all instructions stands in one loop.
@@ -157,5 +124,7 @@ pub fn step(
 {
     let words = [word, side, mask];
     let x = run(&words, 1, ds, a, r, c, vc, v);
-    one_step(x)
+    let end = x.end;
+    let counts = x.counts;
+    Stepped { end, counts }
 }

@@ -5,8 +5,10 @@ use mathlib.Core.Bool.{Bool, true, false, cond}
 use mathlib.Core.List.{List, map-map}
 use Rattle.banks.specs.Bank.{pairOf}
 use Rattle.banks.specs.Line.{addresses, distinct}
-use Rattle.banks.specs.declared.Way.{Way}
+use Rattle.terms.specs.declared.Way.{Way}
 use Rattle.banks.proofs.Counts.{cells-le-16}
+use Rattle.terms.specs.Counts.{none, Within}
+use Rattle.terms.proofs.Sums.{within-none}
 use Rattle.words.specs.Table.{decodeOf}
 use Rattle.words.specs.Address.{Address}
 use Rattle.words.specs.Address as A
@@ -16,14 +18,14 @@ use Rattle.words.specs.Insn.{Insn}
 use Rattle.words.specs.Insn as N
 use Rattle.words.specs.Decoded.{Decoded}
 use Rattle.words.specs.Decoded as D
-use Rattle.model.specs.State.{State, sizedOf}
-use Rattle.model.specs.Place.{Addr, Xlat, xlat}
+use Rattle.pieces.specs.State.{State, sizedOf}
+use Rattle.pieces.specs.Place.{Addr, Xlat, xlat}
 use Rattle.model.specs.Prog.{Prog, ret, _>>=_, run, Write, idle, Did, Done, countsOf, done}
 use Rattle.model.specs.Prog as P
 use Rattle.model.specs.Address.{address, increment, span, loads, from, loading}
 use Rattle.model.specs.Vector.{vector}
 use Rattle.model.specs.Claims.{pairsAt, pairsA, pairs}
-use Rattle.model.specs.Step.{did, countsX, entered, outcome, byDecoded, tripleOf, stepOf}
+use Rattle.model.specs.Step.{did, countsX, counted, outcome, byDecoded, tripleOf, stepOf}
 use Rattle.model.proofs.Laws.{run-bind}
 
 -- an access enters the pairs of its address list
@@ -76,9 +78,9 @@ module _ (X : Xlat) (s : State) where
   counts-are i = ap (λ (d : Done). d .counts .accesses) (run-bind X (did i) (λ d. ret (done d)) s) ∙ did-are i
 
 -- a step counts the distinct (bank, cell) pairs of its address list
-pub entered-are : (i : Insn) (s : State) → entered i s ≡ distinct (pairs i s)
-unfolding entered
-entered-are i s = counts-are xlat s i
+pub accesses-are : (i : Insn) (s : State) → counted i s .accesses ≡ distinct (pairs i s)
+unfolding counted
+accesses-are i s = counts-are xlat s i
 
 -- ---- at most sixteen
 
@@ -97,24 +99,24 @@ pairs-le (N.Address i) s = pairsA-le i s
 pairs-le (N.Vector i) s = zero-le
 pairs-le N.Nop s = zero-le
 
--- no instruction counts more
-pub entered-le : (i : Insn) (s : State) → entered i s ≤ 16
-entered-le i s = rw (entered-are i s) (pairs-le i s)
+-- no instruction counts more than one step may
+pub counted-within : (i : Insn) (s : State) → Within 1 (counted i s)
+counted-within i s = record { accesses = rw (accesses-are i s) (pairs-le i s) }
 
-decoded-le : (d : Decoded) (s : State) → byDecoded d s .accesses ≤ 16
-decoded-le (D.Insn i) s = entered-le i s
-decoded-le (D.Refused k) s = zero-le
+decoded-within : (d : Decoded) (s : State) → Within 1 (byDecoded d s .counts)
+decoded-within (D.Insn i) s = counted-within i s
+decoded-within (D.Refused k) s = within-none 1
 
 -- no triple does
-pub triple-le : (word side mask : ℕ) (s : State) → tripleOf word side mask s .accesses ≤ 16
+pub triple-within : (word side mask : ℕ) (s : State) → Within 1 (tripleOf word side mask s .counts)
 unfolding tripleOf
-triple-le word side mask s = decoded-le (decodeOf word side mask) s
+triple-within word side mask s = decoded-within (decodeOf word side mask) s
 
 -- and the single call does not
-pub step-le : (word side mask : ℕ) (s : State) → stepOf word side mask s .accesses ≤ 16
+pub step-within : (word side mask : ℕ) (s : State) → Within 1 (stepOf word side mask s .counts)
 unfolding stepOf
-step-le word side mask s = go (sizedOf s)
+step-within word side mask s = go (sizedOf s)
   where
-    go : (b : Bool) → cond b (tripleOf word side mask s) (outcome 5 0 s) .accesses ≤ 16
-    go true = triple-le word side mask s
-    go false = zero-le
+    go : (b : Bool) → Within 1 (cond b (tripleOf word side mask s) (outcome 5 none s) .counts)
+    go true = triple-within word side mask s
+    go false = within-none 1

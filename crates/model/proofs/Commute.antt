@@ -5,10 +5,11 @@ use Rattle.words.specs.Insn.{Insn}
 use Rattle.words.specs.Table.{decodeOf}
 use Rattle.words.specs.Decoded as D
 use Prim.Native.Nat.{ℕ}
-use Rattle.model.specs.State.{State, Sized}
-use Rattle.model.specs.Place.{Place, Xlat, xlat}
-use Rattle.model.specs.Prog.{Done, Counts}
-use Rattle.model.specs.Step.{outcome, sem, stepped, entered, tripleOf, stepOf}
+use Rattle.pieces.specs.State.{State, Sized}
+use Rattle.pieces.specs.Place.{Place, Xlat, xlat}
+use Rattle.terms.specs.declared.Counts.{Counts}
+use Rattle.model.specs.Prog.{Done}
+use Rattle.model.specs.Step.{outcome, sem, stepped, counted, tripleOf, stepOf}
 use Rattle.model.specs.Table.{reads, writes}
 use Rattle.model.specs.Claims.{Apart, Free, Commute, Exchange, Swapped}
 use Rattle.model.proofs.Foot.{Clear, Exchanged, exchange}
@@ -41,13 +42,13 @@ module _ (i j : Insn) (s : State) (h : Free xlat i j s) where
   both : Commute xlat i j s
   both = commutes xlat i j s h
 
-  pub later : entered j (stepped i s) ≡ entered j s
-  unfolding entered stepped
-  later = ap (λ (c : Counts). c .accesses) (both .later)
+  pub later : counted j (stepped i s) ≡ counted j s
+  unfolding counted stepped
+  later = both .later
 
-  pub earlier : entered i (stepped j s) ≡ entered i s
-  unfolding entered stepped
-  earlier = ap (λ (c : Counts). c .accesses) (both .earlier)
+  pub earlier : counted i (stepped j s) ≡ counted i s
+  unfolding counted stepped
+  earlier = both .earlier
 
   pub same : stepped j (stepped i s) ≡ stepped i (stepped j s)
   unfolding stepped
@@ -57,7 +58,7 @@ module _ (i j : Insn) (s : State) (h : Free xlat i j s) where
 
 -- an instruction's triple is accepted, and gives what demand 2 says
 pub accepted : (w side mask : ℕ) (i : Insn) (s : State) → Sized s → decodeOf w side mask ≡ D.Insn i
-    → stepOf w side mask s ≡ outcome 0 (entered i s) (stepped i s)
+    → stepOf w side mask s ≡ outcome 0 (counted i s) (stepped i s)
 unfolding tripleOf
 accepted w side mask i s z e = step-sized w side mask s z ∙ (rw e refl)
 
@@ -71,13 +72,13 @@ module _ (w side mask w′ side′ mask′ : ℕ) (i j : Insn) (s : State) (z : 
           first = accepted w side mask i s z d;
           second =
               accepted w′ side′ mask′ j (stepped i s) (sized-stepped i s z) d′
-              ∙ ap (λ (k : ℕ). outcome 0 k (stepped j (stepped i s))) (later i j s h);
+              ∙ ap (λ (k : Counts). outcome 0 k (stepped j (stepped i s))) (later i j s h);
         };
         other = record {
           first = accepted w′ side′ mask′ j s z d′;
           second =
               accepted w side mask i (stepped j s) (sized-stepped j s z) d
-              ∙ ap (λ (k : ℕ). outcome 0 k (stepped i (stepped j s))) (earlier i j s h);
+              ∙ ap (λ (k : Counts). outcome 0 k (stepped i (stepped j s))) (earlier i j s h);
         };
         same = same i j s h;
       }

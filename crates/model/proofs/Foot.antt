@@ -2,11 +2,11 @@
 -- a place that the other asks or writes, come to one state in both orders, with the same results.
 use mathlib.Core.Path.{_≡_, refl, ap, sym, _∙_, subst}
 use mathlib.Core.List.{List, [], _∷_, List·Memᴰ, List·Memᴰ·head, List·Memᴰ·tail}
-use Rattle.model.specs.State.{State}
-use Rattle.model.specs.Place.{Name, Place, Xlat, Val, get, put, place}
+use Rattle.pieces.specs.State.{State}
+use Rattle.pieces.specs.Place.{Name, Place, Xlat, Val, get, put, place}
 use Rattle.model.specs.Prog.{Prog, ret, ask, run, asked, Write, puts, spots, Done}
 use Rattle.model.specs.Claims.{Apart}
-use Rattle.model.proofs.Lens.{put-comm, get-other}
+use Rattle.pieces.proofs.Lens.{put-comm, get-other}
 
 -- the state after a program's writes, and the places it writes, worked out in s
 abbrev pub after : Xlat → Prog Done → State → State

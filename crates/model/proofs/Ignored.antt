@@ -11,10 +11,10 @@ use lib.ListN.{getD}
 use Rattle.words.specs.Fields.{fieldsOf}
 use Rattle.words.specs.Table.{decodeOf, decodeAt, rows, none}
 use Rattle.words.specs.declared.Fields.{Fields}
-use Rattle.words.specs.declared.Refusal.the-variants.{Foreign}
+use Rattle.terms.specs.declared.Refusal.the-variants.{Foreign}
 use Rattle.words.specs.Decoded.{Decoded}
 use Rattle.words.specs.Decoded as D
-use Rattle.model.specs.State.{State}
+use Rattle.pieces.specs.State.{State}
 use Rattle.model.specs.Step.{byDecoded, tripleOf}
 use Rattle.model.specs.Claims.{sided, masked}
 

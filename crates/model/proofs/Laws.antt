@@ -6,8 +6,8 @@ use mathlib.Core.List.{List, [], _∷_, _++_, map}
 use borrow.Author.Tests.{eqb-true, eqb-false}
 use lib.Dec.{eqb}
 use lib.ListN.{getD, set, drop}
-use Rattle.model.specs.State.{State, overD}
-use Rattle.model.specs.Place.{Addr, Xlat, byte, get, put}
+use Rattle.pieces.specs.State.{State, overD}
+use Rattle.pieces.specs.Place.{Addr, Xlat, byte, get, put}
 use Rattle.model.specs.Prog.{Prog, ret, ask, _>>=_, run, Write, puts}
 use Rattle.model.specs.Address.{loads, stores}
 use Rattle.model.specs.Run.{RunOutcome}

@@ -1,21 +1,24 @@
 -- Right lengths stay right: of a step, of a triple, of the single call and of a run.
 use mathlib.Core.Path.{_≡_, refl, _∙_}
-use Prim.Native.Nat.{ℕ, _+_, _*_, _%_}
+use Prim.Native.Nat.{ℕ, _+_, _*_}
 use mathlib.Core.Bool.{Bool, true, false, cond}
 use mathlib.Core.List.{List, [], _∷_}
 use lib.Dec.{eqb}
 use lib.ListN.{length, getD, take, length-set}
 use lib.Seq.{length-sets}
+use Rattle.terms.specs.Counts.{none, plus}
+use Rattle.terms.specs.declared.Counts.{Counts}
 use Rattle.words.specs.Table.{decodeOf}
 use Rattle.words.specs.Insn.{Insn}
 use Rattle.words.specs.Decoded.{Decoded}
 use Rattle.words.specs.Decoded as D
-use Rattle.model.specs.State.{State, Sized, sizedOf, Piece, code, on, over}
-use Rattle.model.specs.Place.{Name, at, vec, byte, Xlat, xlat, Val, put, upd, edit, cut}
+use Rattle.pieces.specs.State.{State, Sized, sizedOf, Piece, code, on, over}
+use Rattle.pieces.specs.Place.{Name, at, vec, byte, Xlat, xlat, Val, put, upd, edit, cut}
 use Rattle.model.specs.Prog.{run, Write, puts}
 use Rattle.model.specs.Step.{sem, stepX, stepped, Outcome, outcome, byDecoded, tripleOf, stepOf}
-use Rattle.model.specs.Run.{RunOutcome, ended, runFrom, runOf}
+use Rattle.model.specs.Run.{Triple, triples, RunOutcome, ended, runFrom, runOf}
 use Rattle.model.proofs.Laws.{turn}
+use Rattle.model.proofs.Triples.{opening}
 
 length-on : (i j : ℕ) (f : List ℕ → List ℕ) (l : List ℕ) → length (f l) ≡ length l → length (on i j f l) ≡ length l
 length-on i j f l h = go (eqb i j)
@@ -71,29 +74,22 @@ pub sized-stepOf : (word side mask : ℕ) (s : State) → Sized s → Sized (ste
 unfolding stepOf
 sized-stepOf word side mask s h = go (sizedOf s)
   where
-    go : (b : Bool) → Sized (cond b (tripleOf word side mask s) (outcome 5 0 s) .after)
+    go : (b : Bool) → Sized (cond b (tripleOf word side mask s) (outcome 5 none s) .after)
     go true = sized-triple word side mask s h
     go false = h
 
 -- a run from anywhere keeps them
-pub sized-from : (budget : ℕ) (ws : List ℕ) (n k : ℕ) (s : State) → Sized s → Sized (runFrom budget ws n k s .after)
+pub sized-from : (budget : ℕ) (ts : List Triple) (n : ℕ) (c : Counts) (s : State) → Sized s → Sized (runFrom budget ts n c s .after)
 unfolding runFrom
-sized-from budget [] n k s h = h
-sized-from budget (w ∷ []) n k s h = h
-sized-from budget (w ∷ side ∷ []) n k s h = h
-sized-from budget (w ∷ side ∷ mask ∷ ws) n k s h =
-    let o : Outcome = tripleOf w side mask s in
-    let g : Sized (o .after) = sized-triple w side mask s h in
+sized-from budget [] n c s h = h
+sized-from budget (t ∷ ts) n c s h =
+    let o : Outcome = tripleOf (t .word) (t .side) (t .mask) s in
+    let g : Sized (o .after) = sized-triple (t .word) (t .side) (t .mask) s h in
     turn (λ (r : RunOutcome). Sized (r .after)) budget n (o .number)
-    (ended 7 n k s) (runFrom budget ws (n + 1) (k + o .accesses) (o .after)) (ended (o .number) n k (o .after))
-    (λ e. h) (λ e z. sized-from budget ws (n + 1) (k + o .accesses) (o .after) g) (λ e z. g)
+    (ended 7 n c s) (runFrom budget ts (n + 1) (plus c (o .counts)) (o .after)) (ended (o .number) n c (o .after))
+    (λ e. h) (λ e z. sized-from budget ts (n + 1) (plus c (o .counts)) (o .after) g) (λ e z. g)
 
 -- the state after a list call has the right lengths if the one before it has
 pub sized-run : (budget : ℕ) (ws : List ℕ) (s : State) → Sized s → Sized (runOf budget ws s .after)
-unfolding runOf
-sized-run budget ws s h = go (sizedOf s) (eqb (length ws % 3) 0)
-  where
-    go : (b c : Bool) → Sized (cond b (cond c (runFrom budget ws 0 0 s) (ended 6 0 0 s)) (ended 5 0 0 s) .after)
-    go true true = sized-from budget ws 0 0 s h
-    go true false = h
-    go false c = h
+sized-run budget ws s h =
+    opening (λ (r : RunOutcome). Sized (r .after)) budget ws s (λ z e. sized-from budget (triples ws) 0 none s h) (λ z e. h) (λ z. h)

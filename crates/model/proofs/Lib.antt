@@ -1,16 +1,14 @@
 -- Theorems about the model.
 pub mod Laws
+pub mod Triples
 pub mod Lengths
 pub mod Refused
-pub mod Back
 pub mod Numbers
 pub mod Ignored
 pub mod Cells
 pub mod Lists
 pub mod Listed
 pub mod Examples
-pub mod Change
-pub mod Lens
 pub mod Foot
 pub mod Match
 pub mod Commute

@@ -3,30 +3,20 @@ use mathlib.Core.Path.{_≡_, refl, sym, ap, _∙_, subst}
 use Prim.Native.Nat.{ℕ, zero, suc, _+_, _*_, _/_, _%_, _≤_, _<_}
 use native.Mathlib.Omega.{arith}
 use native.Mathlib.Decide.{ℕ-discrete}
-use mathlib.Core.Bool.{Bool, true, false, cond}
-use mathlib.Core.List.{List, _∷_}
-use borrow.Author.Tests.{eqb-true, eq-eqb, ne-eqb}
-use lib.Dec.{eqb}
-use lib.ListN.{length, getD, drop, drop-of-length-le}
-use lib.Seq.{drop-cons}
-use Rattle.words.specs.declared.Refusal.{Refusal}
-use Rattle.model.specs.State.{State, Sized, sizedOf}
+use mathlib.Core.List.{List}
+use borrow.Author.Tests.{eq-eqb, ne-eqb}
+use lib.ListN.{length, getD, drop}
+use Rattle.terms.specs.Counts.{plus}
+use Rattle.terms.specs.declared.Counts.{Counts}
+use Rattle.terms.specs.declared.Refusal.{Refusal}
+use Rattle.pieces.specs.State.{State, Sized}
 use Rattle.model.specs.Step.{Outcome, refusal, tripleOf}
-use Rattle.model.specs.Run.{RunOutcome, ended, runFrom, runOf}
+use Rattle.model.specs.Run.{triples, RunOutcome, ended, runFrom, runOf}
 use Rattle.model.specs.Claims.{callAt, metAt, countAt, AllDone, Comes, Finished, Spent, Stopped, ExactlyAt, Ends, finished, spent, stopped, OneByOne}
+use Rattle.pieces.proofs.Right.{sized-only}
+use Rattle.model.proofs.Triples.{triples-at, triples-end, opening}
 use Rattle.model.proofs.Lengths.{sized-stepOf}
-use Rattle.model.proofs.Refused.{refused-after, refused-as, sized-if, sized-only, step-sized, refusal-range, refusal-inj}
-
--- the three words at i, and what comes after them
-pub three : (ws : List ℕ) (i : ℕ) → i + 2 < length ws → drop i ws ≡ getD ws i 0 ∷ getD ws (i + 1) 0 ∷ getD ws (i + 2) 0 ∷ drop (i + 3) ws
-three ws i h =
-    let e1 : suc i ≡ i + 1 = omega arith in
-    let e2 : suc (i + 1) ≡ i + 2 = omega arith in
-    let e3 : suc (i + 2) ≡ i + 3 = omega arith in
-    drop-cons ws i 0 (omega arith)
-    ∙ ap (λ (l : List ℕ). getD ws i 0 ∷ l)
-    ((rw e1 refl ∙ drop-cons ws (i + 1) 0 (omega arith))
-    ∙ ap (λ (l : List ℕ). getD ws (i + 1) 0 ∷ l) ((rw e2 refl ∙ drop-cons ws (i + 2) 0 h) ∙ ap (λ (n : ℕ). getD ws (i + 2) 0 ∷ drop n ws) e3))
+use Rattle.model.proofs.Refused.{refused-after, refused-as, step-sized, refusal-range, refusal-inj}
 
 -- whole triples are left or none
 whole-left : (n l : ℕ) → l % 3 ≡ 0 → n * 3 < l → n * 3 + 2 < l
@@ -34,15 +24,15 @@ whole-left n l h g = omega arith
 
 module _ (budget : ℕ) (ws : List ℕ) where
   -- one turn before triple n, of which the single call in t is made
-  module _ (n k : ℕ) (t : State) where
-    turn-all : n * 3 ≡ length ws → runFrom budget (drop (n * 3) ws) n k t ≡ ended 0 n k t
+  module _ (n : ℕ) (c : Counts) (t : State) where
+    turn-all : n * 3 ≡ length ws → runFrom budget (triples (drop (n * 3) ws)) n c t ≡ ended 0 n c t
     unfolding runFrom
-    turn-all e = let l : length ws ≤ n * 3 = omega arith in rw (drop-of-length-le ws l) refl
+    turn-all e = rw (triples-end ws (n * 3) (omega arith)) refl
 
     module _ (h : n * 3 + 2 < length ws) where
-      turn-spent : n ≡ budget → runFrom budget (drop (n * 3) ws) n k t ≡ ended 7 n k t
+      turn-spent : n ≡ budget → runFrom budget (triples (drop (n * 3) ws)) n c t ≡ ended 7 n c t
       unfolding runFrom
-      turn-spent e = rw (three ws (n * 3) h, eq-eqb n budget e) refl
+      turn-spent e = rw (triples-at ws (n * 3) h, eq-eqb n budget e) refl
 
       module _ (z : Sized t) (f : n ≡ budget → ⊥) where
         abbrev o : Outcome
@@ -51,18 +41,19 @@ module _ (budget : ℕ) (ws : List ℕ) where
         single : tripleOf (getD ws (n * 3) 0) (getD ws (n * 3 + 1) 0) (getD ws (n * 3 + 2) 0) t ≡ o
         single = sym (step-sized (getD ws (n * 3) 0) (getD ws (n * 3 + 1) 0) (getD ws (n * 3 + 2) 0) t z)
 
-        turn-done : o .number ≡ 0 → runFrom budget (drop (n * 3) ws) n k t ≡ runFrom budget (drop (suc n * 3) ws) (suc n) (k + o .accesses) (o .after)
+        turn-done : o .number ≡ 0 → runFrom budget (triples (drop (n * 3) ws)) n c t
+            ≡ runFrom budget (triples (drop (suc n * 3) ws)) (suc n) (plus c (o .counts)) (o .after)
         unfolding runFrom
         turn-done e =
             let e₁ : n * 3 + 3 ≡ suc n * 3 = omega arith in
             let e₂ : n + 1 ≡ suc n = omega arith in
-            rw (three ws (n * 3) h, ne-eqb n budget f, single, eq-eqb (o .number) 0 e, e₁, e₂) refl
+            rw (triples-at ws (n * 3) h, ne-eqb n budget f, single, eq-eqb (o .number) 0 e, e₁, e₂) refl
 
-        turn-halt : (o .number ≡ 0 → ⊥) → runFrom budget (drop (n * 3) ws) n k t ≡ ended (o .number) n k t
+        turn-halt : (o .number ≡ 0 → ⊥) → runFrom budget (triples (drop (n * 3) ws)) n c t ≡ ended (o .number) n c t
         unfolding runFrom
         turn-halt e =
-            rw (three ws (n * 3) h, ne-eqb n budget f, single, ne-eqb (o .number) 0 e)
-            (ap (ended (o .number) n k) (refused-after (getD ws (n * 3) 0) (getD ws (n * 3 + 1) 0) (getD ws (n * 3 + 2) 0) t e))
+            rw (triples-at ws (n * 3) h, ne-eqb n budget f, single, ne-eqb (o .number) 0 e)
+            (ap (ended (o .number) n c) (refused-after (getD ws (n * 3) 0) (getD ws (n * 3 + 1) 0) (getD ws (n * 3 + 2) 0) t e))
 
   module _ (s : State) where
     met-sized : Sized s → (n : ℕ) → Sized (metAt n ws s)
@@ -70,7 +61,7 @@ module _ (budget : ℕ) (ws : List ℕ) where
     met-sized z (suc n) = sized-stepOf (getD ws (n * 3) 0) (getD ws (n * 3 + 1) 0) (getD ws (n * 3 + 2) 0) (metAt n ws s) (met-sized z n)
 
     -- a run that comes to triple n stands there as one that starts there
-    along : (n : ℕ) → Comes budget ws s n → runOf budget ws s ≡ runFrom budget (drop (n * 3) ws) n (countAt n ws s) (metAt n ws s)
+    along : (n : ℕ) → Comes budget ws s n → runOf budget ws s ≡ runFrom budget (triples (drop (n * 3) ws)) n (countAt n ws s) (metAt n ws s)
     unfolding runOf
     along zero c = rw (sized-only s (c .sized), eq-eqb (length ws % 3) 0 (c .whole)) refl
     along (suc n) c =
@@ -140,15 +131,9 @@ module _ (budget : ℕ) (ws : List ℕ) (s : State) where
 
   -- a call that gives neither 5 nor 6 has right lengths
   started : (r .number ≡ 5 → ⊥) → (r .number ≡ 6 → ⊥) → Sized s × (length ws % 3 ≡ 0)
-  unfolding runOf
-  started = go (sizedOf s) (eqb (length ws % 3) 0) (sized-if s) (eqb-true (length ws % 3) 0)
-    where
-      go : (b c : Bool) → (b ≡ true → Sized s) → (c ≡ true → length ws % 3 ≡ 0)
-          → let o = cond b (cond c (runFrom budget ws 0 0 s) (ended 6 0 0 s)) (ended 5 0 0 s) in (o .number ≡ 5 → ⊥) → (o .number ≡ 6 → ⊥)
-          → Sized s × (length ws % 3 ≡ 0)
-      go true true p q f g = (p refl, q refl)
-      go true false p q f g = absurd (g refl)
-      go false c p q f g = absurd (f refl)
+  started =
+      opening (λ (o : RunOutcome). (o .number ≡ 5 → ⊥) → (o .number ≡ 6 → ⊥) → Sized s × (length ws % 3 ≡ 0)) budget ws s
+      (λ z e f g. (z, e)) (λ z e f g. absurd (g refl)) (λ z f g. absurd (f refl))
 
   -- so it ends in one of them
   past : (r .number ≡ 5 → ⊥) → (r .number ≡ 6 → ⊥) → Ends budget ws s r

@@ -5,10 +5,10 @@ use mathlib.Core.Bool.{Bool, true, false, cond}
 use mathlib.Core.List.{List, [], _∷_, _++_, map, append-nil}
 use lib.Dec.{ltb}
 use Rattle.banks.specs.Line.{addresses}
-use Rattle.banks.specs.declared.Way.{Way}
-use Rattle.banks.specs.declared.Way.the-variants.{Horizontal, Vertical, Scalar}
-use Rattle.words.specs.declared.Half as H
-use Rattle.words.specs.declared.Half.the-variants.{Low, High}
+use Rattle.terms.specs.declared.Way.{Way}
+use Rattle.terms.specs.declared.Way.the-variants.{Horizontal, Vertical, Scalar}
+use Rattle.terms.specs.declared.Half as H
+use Rattle.terms.specs.declared.Half.the-variants.{Low, High}
 use Rattle.words.specs.declared.Increment.{Increment}
 use Rattle.words.specs.declared.Increment.the-variants as I
 use Rattle.words.specs.Second.{Second}
@@ -21,11 +21,11 @@ use Rattle.words.specs.Vector.{Vector}
 use Rattle.words.specs.Vector as W
 use Rattle.words.specs.Insn.{Insn}
 use Rattle.words.specs.Insn as N
-use Rattle.model.specs.State.{State, A}
-use Rattle.model.specs.Place.{Place, Addr, Xlat, get, place, byte, at}
+use Rattle.pieces.specs.State.{State, A}
+use Rattle.pieces.specs.Place.{Place, Addr, Xlat, get, place, byte, at}
 use Rattle.model.specs.Prog.{Prog, ret, ask, _>>=_, run, asked, Write, spots, below4, Did, Done, done}
 use lib.ListN.{drop}
-use Rattle.model.specs.Address.{address, span, loads, stores, into, from, loading, storing, increment, half}
+use Rattle.model.specs.Address.{address, span, loads, stores, into, from, loading, storing, increment}
 use Rattle.model.specs.Vector.{vector, second, input}
 use Rattle.model.specs.Step.{sem}
 use Rattle.model.specs.Table.{reads, writes, readsA, writesA, readsV, writesV, bytes, datum, written, halfOf}
@@ -134,7 +134,7 @@ module _ (X : Xlat) where
   asked-input vcdst (Mask m) s = refl
   asked-input vcdst Signs s = refl
 
-  place-half : (h : H.Half) (n : ℕ) → place X (at A n (half h)) ≡ halfOf h n
+  place-half : (h : H.Half) (n : ℕ) → place X (at A n h) ≡ halfOf h n
   place-half Low n = refl
   place-half High n = refl
 

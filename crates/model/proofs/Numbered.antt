@@ -5,15 +5,17 @@ use native.Mathlib.Omega.{arith}
 use mathlib.Core.Bool.{cond}
 use borrow.Author.Tests.{lt-ltb, le-ltb}
 use lib.Dec.{ltb}
-use Rattle.model.specs.State.{Piece, A, R, C, VC}
-use Rattle.model.specs.Place.{Half, lo, hi, Place, at, vec, byte, reg}
+use Rattle.pieces.specs.State.{Piece, A, R, C, VC}
+use Rattle.terms.specs.declared.Half.{Half}
+use Rattle.terms.specs.declared.Half.the-variants.{Low, High}
+use Rattle.pieces.specs.Place.{Place, at, vec, byte, reg}
 use Rattle.model.specs.Number.{side, number}
 
--- half of $a[n] and $r n below 32 ($r is not cut: its place is the half lo), $v n below 32, $c and $vc n below 4, a byte below 8,192
+-- half of $a[n] and $r n below 32 ($r is not cut: its place is the half Low), $v n below 32, $c and $vc n below 4, a byte below 8,192
 abbrev pub There : Place → Type 0
 There (at A n h) = n < 32
-There (at R n lo) = n < 32
-There (at R n hi) = ⊥
+There (at R n Low) = n < 32
+There (at R n High) = ⊥
 There (vec n) = n < 32
 There (at C n h) = n < 4
 There (at VC n h) = n < 4
@@ -21,22 +23,22 @@ There (byte b) = b < 8192
 
 -- a place that is there has a number below 8,336
 pub number-lt : (p : Place) → There p → number p < 8336
-number-lt (at A n lo) h = omega arith
-number-lt (at A n hi) h = omega arith
-number-lt (at R n lo) h = omega arith
-number-lt (at R n hi) h = absurd h
+number-lt (at A n Low) h = omega arith
+number-lt (at A n High) h = omega arith
+number-lt (at R n Low) h = omega arith
+number-lt (at R n High) h = absurd h
 number-lt (vec n) h = omega arith
-number-lt (at C n lo) h = omega arith
-number-lt (at C n hi) h = omega arith
-number-lt (at VC n lo) h = omega arith
-number-lt (at VC n hi) h = omega arith
+number-lt (at C n Low) h = omega arith
+number-lt (at C n High) h = omega arith
+number-lt (at VC n Low) h = omega arith
+number-lt (at VC n High) h = omega arith
 number-lt (byte b) h = omega arith
 
 -- ---- the way back: which place has a number
 
 sideAt : ℕ → Half
-sideAt zero = lo
-sideAt (suc n) = hi
+sideAt zero = Low
+sideAt (suc n) = High
 
 word : Piece → ℕ → Place
 word p n = at p (n / 2) (sideAt (n % 2))
@@ -97,25 +99,25 @@ past-VC = past 136 8 (word VC) byte past-C
 
 word-back : (p : Piece) (n : ℕ) (h : Half) → word p (2 * n + side h) ≡ at p n h
 unfolding word sideAt
-word-back p n lo =
+word-back p n Low =
     let e : (2 * n + 0) / 2 ≡ n = omega arith in
     let f : (2 * n + 0) % 2 ≡ 0 = omega arith in
     rw (e, f)
-word-back p n hi =
+word-back p n High =
     let e : (2 * n + 1) / 2 ≡ n = omega arith in
     let f : (2 * n + 1) % 2 ≡ 1 = omega arith in
     rw (e, f)
 
 -- the numbers of k words are the first 2 * k
 word-lt : (n k : ℕ) (h : Half) → n < k → 2 * n + side h < 2 * k
-word-lt n k lo l = omega arith
-word-lt n k hi l = omega arith
+word-lt n k Low l = omega arith
+word-lt n k High l = omega arith
 
 back : (p : Place) → There p → placeAt (number p) ≡ p
 unfolding placeAt fromR fromV fromC fromVC
 back (at A n h) t = inside 64 (word A) fromR (2 * n + side h) (word-lt n 32 h t) ∙ word-back A n h
-back (at R n lo) t = past-A n ∙ inside 32 reg fromV n t
-back (at R n hi) t = absurd t
+back (at R n Low) t = past-A n ∙ inside 32 reg fromV n t
+back (at R n High) t = absurd t
 back (vec n) t = past-R n ∙ inside 32 vec fromC n t
 back (at C n h) t = past-V (2 * n + side h) ∙ inside 8 (word C) fromVC (2 * n + side h) (word-lt n 4 h t) ∙ word-back C n h
 back (at VC n h) t = past-C (2 * n + side h) ∙ inside 8 (word VC) byte (2 * n + side h) (word-lt n 4 h t) ∙ word-back VC n h

@@ -13,13 +13,15 @@ use Rattle.banks.specs.Line.{from, has}
 use Rattle.words.specs.Fields.{fieldsOf}
 use Rattle.words.specs.Table.{decodeOf, decodeAt, rows, none}
 use Rattle.words.specs.declared.Fields.{Fields}
-use Rattle.words.specs.declared.Refusal.the-variants.{Foreign}
+use Rattle.terms.specs.declared.Refusal.the-variants.{Foreign}
 use Rattle.words.specs.Decoded.{Decoded}
 use Rattle.words.specs.Decoded as D
-use Rattle.model.specs.State.{State, sizedOf}
+use Rattle.pieces.specs.State.{State, sizedOf}
 use Rattle.model.specs.Claims.{foreign, documented, sidedOps, sided, masked, Exactly}
+use Rattle.terms.specs.Counts as K
 use Rattle.model.specs.Step.{outcome, refusal, byDecoded, tripleOf, stepOf}
-use Rattle.model.proofs.Refused.{clash, and-true, sized-if, sized-only, five-iff}
+use Rattle.pieces.proofs.Right.{clash, and-true, sized-if, sized-only}
+use Rattle.model.proofs.Refused.{five-iff}
 
 -- "3 and 4 can't meet"
 pub not-both : (op : ℕ) → masked op ≡ true → sided op ≡ false
@@ -94,7 +96,7 @@ pub step-number : (word side mask : ℕ) (s : State)
 unfolding stepOf
 step-number word side mask s = go (sizedOf s)
   where
-    go : (b : Bool) → cond b (tripleOf word side mask s) (outcome 5 0 s) .number ≡ cond b (numberOf (fieldsOf word .op) side mask) 5
+    go : (b : Bool) → cond b (tripleOf word side mask s) (outcome 5 K.none s) .number ≡ cond b (numberOf (fieldsOf word .op) side mask) 5
     go true = triple-number word side mask s
     go false = refl
 

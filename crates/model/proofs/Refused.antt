@@ -7,34 +7,39 @@ use mathlib.Core.Bool.{Bool, true, false, cond, _&&_}
 use borrow.Author.Tests.{eqb-true}
 use lib.Dec.{eqb}
 use lib.ListN.{length}
+use Rattle.terms.specs.Counts.{none}
+use Rattle.terms.proofs.Inverse.{answer-inj}
+use Rattle.terms.specs.declared.Answer.{Answer}
+use Rattle.terms.specs.declared.Answer.the-variants as A
 use Rattle.words.specs.Table.{decodeOf}
-use Rattle.words.specs.declared.Refusal.{Refusal}
-use Rattle.words.specs.declared.Refusal.the-variants.{Foreign, Undocumented, SideIndex, SideMask}
+use Rattle.terms.specs.declared.Refusal.{Refusal}
+use Rattle.terms.specs.declared.Refusal.the-variants.{Foreign, Undocumented, SideIndex, SideMask}
 use Rattle.words.specs.Decoded.{Decoded}
 use Rattle.words.specs.Decoded as D
-use Rattle.model.specs.State.{State, Sized, sizedOf, lengths}
+use Rattle.pieces.specs.State.{State, Sized, sizedOf}
+use Rattle.pieces.proofs.Right.{sized-if, sized-only}
 use Rattle.model.specs.Step.{Outcome, outcome, refusal, byDecoded, tripleOf, stepOf}
 
 -- ---- a refused step leaves the state
 
-refused-decoded : (d : Decoded) (s : State) → (byDecoded d s .number ≡ 0 → ⊥) → byDecoded d s ≡ outcome (byDecoded d s .number) 0 s
+refused-decoded : (d : Decoded) (s : State) → (byDecoded d s .number ≡ 0 → ⊥) → byDecoded d s ≡ outcome (byDecoded d s .number) none s
 refused-decoded (D.Insn i) s h = absurd (h refl)
 refused-decoded (D.Refused k) s h = refl
 
 -- a triple that is refused changes nothing and counts nothing
 pub refused-triple : (word side mask : ℕ) (s : State) → (tripleOf word side mask s .number ≡ 0 → ⊥)
-    → tripleOf word side mask s ≡ outcome (tripleOf word side mask s .number) 0 s
+    → tripleOf word side mask s ≡ outcome (tripleOf word side mask s .number) none s
 unfolding tripleOf
 refused-triple word side mask s h = refused-decoded (decodeOf word side mask) s h
 
 -- so does the single call that is refused, for whatever reason
 pub refused : (word side mask : ℕ) (s : State) → (stepOf word side mask s .number ≡ 0 → ⊥)
-    → stepOf word side mask s ≡ outcome (stepOf word side mask s .number) 0 s
+    → stepOf word side mask s ≡ outcome (stepOf word side mask s .number) none s
 unfolding stepOf
 refused word side mask s = go (sizedOf s)
   where
-    go : (b : Bool) → (cond b (tripleOf word side mask s) (outcome 5 0 s) .number ≡ 0 → ⊥)
-        → cond b (tripleOf word side mask s) (outcome 5 0 s) ≡ outcome (cond b (tripleOf word side mask s) (outcome 5 0 s) .number) 0 s
+    go : (b : Bool) → (cond b (tripleOf word side mask s) (outcome 5 none s) .number ≡ 0 → ⊥)
+        → cond b (tripleOf word side mask s) (outcome 5 none s) ≡ outcome (cond b (tripleOf word side mask s) (outcome 5 none s) .number) none s
     go true h = refused-triple word side mask s h
     go false h = refl
 
@@ -42,58 +47,21 @@ refused word side mask s = go (sizedOf s)
 pub refused-after : (word side mask : ℕ) (s : State) → (stepOf word side mask s .number ≡ 0 → ⊥) → stepOf word side mask s .after ≡ s
 refused-after word side mask s h = ap (λ (o : Outcome). o .after) (refused word side mask s h)
 
--- a refused call reports no accesses
-pub refused-accesses : (word side mask : ℕ) (s : State) → (stepOf word side mask s .number ≡ 0 → ⊥) → stepOf word side mask s .accesses ≡ 0
-refused-accesses word side mask s h = ap (λ (o : Outcome). o .accesses) (refused word side mask s h)
-
--- ---- the right lengths and their test
-
--- the two truth values differ
-pub clash : false ≡ true → ⊥
-clash e = let z : _≡_ {A = ℕ} 0 1 = ap (λ (x : Bool). cond x 1 0) e in omega arith
-
-pub and-true : (a b : Bool) → a && b ≡ true → (a ≡ true) × (b ≡ true)
-and-true true b e = (refl, e)
-and-true false b e = absurd (clash e)
-
--- what passes the test has the right lengths
-pub sized-if : (s : State) → sizedOf s ≡ true → Sized s
-unfolding lengths
-sized-if s e =
-    let e₁ = and-true _ (eqb (length (s .v)) 512) e in
-    let e₂ = and-true _ (eqb (length (s .vc)) 4) (e₁ .0) in
-    let e₃ = and-true _ (eqb (length (s .c)) 4) (e₂ .0) in
-    let e₄ = and-true _ (eqb (length (s .r)) 32) (e₃ .0) in
-    let e₅ = and-true (eqb (length (s .ds)) 8192) (eqb (length (s .a)) 32) (e₄ .0) in
-    record {
-      ds = eqb-true _ _ (e₅ .0);
-      a = eqb-true _ _ (e₅ .1);
-      r = eqb-true _ _ (e₄ .1);
-      c = eqb-true _ _ (e₃ .1);
-      vc = eqb-true _ _ (e₂ .1);
-      v = eqb-true _ _ (e₁ .1);
-    }
-
--- and the right lengths pass it
-pub sized-only : (s : State) → Sized s → sizedOf s ≡ true
-unfolding lengths
-sized-only s h = rw (h .ds, h .a, h .r, h .c, h .vc, h .v)
+-- a refused call counts nothing
+pub refused-counts : (word side mask : ℕ) (s : State) → (stepOf word side mask s .number ≡ 0 → ⊥) → stepOf word side mask s .counts ≡ none
+refused-counts word side mask s h = ap (λ (o : Outcome). o .counts) (refused word side mask s h)
 
 -- ---- the numbers by what the word decodes to
 
-refusal-of : ℕ → Refusal
-refusal-of n = cond (eqb n 1) Foreign (cond (eqb n 2) Undocumented (cond (eqb n 3) SideIndex SideMask))
-
-refusal-back : (k : Refusal) → refusal-of (refusal k) ≡ k
-unfolding refusal-of
-refusal-back Foreign = refl
-refusal-back Undocumented = refl
-refusal-back SideIndex = refl
-refusal-back SideMask = refl
+-- an answer's refusal
+which : Refusal → Answer → Refusal
+which d (A.Done c) = d
+which d (A.Refused k) = k
 
 -- their numbers tell them apart
 pub refusal-inj : (j k : Refusal) → refusal j ≡ refusal k → j ≡ k
-refusal-inj j k e = sym (refusal-back j) ∙ ap refusal-of e ∙ refusal-back k
+unfolding which
+refusal-inj j k e = ap (which j) (answer-inj (A.Refused j) (A.Refused k) e refl)
 
 -- the refusals of a triple have the numbers 1 to 4
 pub refusal-range : (k : Refusal) → (1 ≤ refusal k) × (refusal k ≤ 4)
@@ -126,7 +94,7 @@ module _ (word side mask : ℕ) (s : State) where
   unfolding stepOf
   five-iff = (λ e h. omega (arith, triple-number-le word side mask s, subst (λ (o : Outcome). o .number ≡ 5) (step-sized h) e), λ h. go (sizedOf s) (sized-if s) h)
     where
-      go : (b : Bool) → (b ≡ true → Sized s) → (Sized s → ⊥) → cond b (tripleOf word side mask s) (outcome 5 0 s) .number ≡ 5
+      go : (b : Bool) → (b ≡ true → Sized s) → (Sized s → ⊥) → cond b (tripleOf word side mask s) (outcome 5 none s) .number ≡ 5
       go true f h = absurd (h (f refl))
       go false f h = refl
 
@@ -135,7 +103,7 @@ module _ (word side mask : ℕ) (s : State) where
   unfolding stepOf tripleOf
   refusal-iff k = (go (sizedOf s) (sized-if s), λ h. ap (λ (o : Outcome). o .number) (step-sized (h .0)) ∙ ap (λ (d : Decoded). byDecoded d s .number) (h .1))
     where
-      go : (b : Bool) → (b ≡ true → Sized s) → cond b (tripleOf word side mask s) (outcome 5 0 s) .number ≡ refusal k
+      go : (b : Bool) → (b ≡ true → Sized s) → cond b (tripleOf word side mask s) (outcome 5 none s) .number ≡ refusal k
           → Sized s × (decodeOf word side mask ≡ D.Refused k)
       go true f e = (f refl, decoded-refusal (decodeOf word side mask) k s e)
       go false f e = absurd (omega (arith, refusal-range k))

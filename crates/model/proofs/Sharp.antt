@@ -8,18 +8,18 @@ use mathlib.Core.List.{List, [], _∷_, _++_}
 use lib.ListN.{getD, replicate}
 use Rattle.banks.specs.Bank.{at, placeOf, bankOf, turnOf, cellOf, hiloOf}
 use Rattle.banks.specs.Line.{addresses, line, startOf, stepOf, wordStart}
-use Rattle.banks.specs.declared.Way.the-variants.{Scalar}
+use Rattle.terms.specs.declared.Way.the-variants.{Scalar}
 use Rattle.lanes.specs.Lanes.{listed, flags, lanesOf, movLanes, movImmLanes, flagBytes, cmpadFlags}
-use Rattle.lanes.specs.Lane.{movLane, movImmLane, cmpadLane}
-use Rattle.words.specs.declared.Half as H
-use Rattle.words.specs.declared.Half.the-variants.{Low, High}
+use Rattle.lane.specs.Lane.{movLane, movImmLane, cmpadLane}
+use Rattle.terms.specs.declared.Half as H
+use Rattle.terms.specs.declared.Half.the-variants.{Low, High}
 use Rattle.words.specs.Input.{Input}
 use Rattle.words.specs.Input.{Mask, Signs}
 use Rattle.words.specs.Address as A
 use Rattle.words.specs.Vector as W
 use Rattle.words.specs.Insn.{Insn}
 use Rattle.words.specs.Insn as N
-use Rattle.model.specs.State.{State, state}
+use Rattle.pieces.specs.State.{State, state}
 use Rattle.model.specs.Number.{readsOf, writesOf, touchesOf}
 use Rattle.model.specs.Swap.{has}
 use Rattle.model.specs.Step.{stepped}

@@ -10,13 +10,13 @@ use lib.Bits.{bitOr, or-lt}
 use lib.Dec.{ltb}
 use lib.ListN.{length, length-append, length-map}
 use Rattle.banks.specs.Line.{addresses, line, countOf}
-use Rattle.banks.specs.declared.Way.{Way}
-use Rattle.banks.specs.declared.Way.the-variants.{Horizontal, Vertical, Scalar}
+use Rattle.terms.specs.declared.Way.{Way}
+use Rattle.terms.specs.declared.Way.the-variants.{Horizontal, Vertical, Scalar}
 use Rattle.banks.proofs.Places.{length-from}
 use Rattle.banks.proofs.OneToOne.{at-lt}
-use Rattle.words.specs.Bounded.{BoundedI, BoundedS, BoundedA, BoundedV, Bounded}
-use Rattle.words.specs.declared.Half as H
-use Rattle.words.specs.declared.Half.the-variants.{Low, High}
+use Rattle.words.specs.inner.Bounded.{BoundedI, BoundedS, BoundedA, BoundedV, Bounded}
+use Rattle.terms.specs.declared.Half as H
+use Rattle.terms.specs.declared.Half.the-variants.{Low, High}
 use Rattle.words.specs.declared.Increment.{Increment}
 use Rattle.words.specs.declared.Increment.the-variants as I
 use Rattle.words.specs.Second.{Second}
@@ -29,8 +29,8 @@ use Rattle.words.specs.Vector.{Vector}
 use Rattle.words.specs.Vector as W
 use Rattle.words.specs.Insn.{Insn}
 use Rattle.words.specs.Insn as N
-use Rattle.model.specs.State.{State}
-use Rattle.model.specs.Place.{Place, byte, signs, zeros, long, short, xlat}
+use Rattle.pieces.specs.State.{State}
+use Rattle.pieces.specs.Place.{Place, byte, signs, zeros, long, short, xlat}
 use Rattle.model.specs.Table.{halfOf, increment, second, input, written, longOf, shortOf, flagsOf, datum, bytes, atOr, atAddr, addrIn, codeIn, readsA, writesA, readsV, writesV, reads, writes}
 use Rattle.model.specs.Number.{readsOf, writesOf, touchesOf}
 use Rattle.model.proofs.Numbered.{There}

@@ -8,18 +8,19 @@ use mathlib.Core.List.{List, [], _∷_, _++_, List·Memᴰ, List·Memᴰ·head, 
 use borrow.Author.Tests.{eqb-true, eq-eqb}
 use lib.Dec.{eqb}
 use Rattle.words.specs.Table.{decodeOf}
-use Rattle.words.specs.Bounded.{Bounded, BoundedD}
+use Rattle.words.specs.inner.Bounded.{Bounded, BoundedD}
 use Rattle.words.specs.Insn.{Insn}
 use Rattle.words.specs.Decoded.{Decoded}
 use Rattle.words.specs.Decoded as D
 use Rattle.words.proofs.Bound.{bounded}
-use Rattle.model.specs.State.{State, Sized, sizedOf}
-use Rattle.model.specs.Place.{Place, xlat}
+use Rattle.pieces.specs.State.{State, Sized, sizedOf}
+use Rattle.pieces.specs.Place.{Place, xlat}
 use Rattle.model.specs.Table.{reads, writes}
 use Rattle.model.specs.Claims.{Apart, Free, Swapped}
 use Rattle.model.specs.Number.{number, readsOf, writesOf, touchesOf}
 use Rattle.model.specs.Swap.{has, Verdict, verdict, firstIn, free, verdictOf, swapOutcome, swapDecoded, swapOf}
-use Rattle.model.proofs.Refused.{clash, refusal-range, sized-if, sized-only}
+use Rattle.pieces.proofs.Right.{clash, sized-if, sized-only}
+use Rattle.model.proofs.Refused.{refusal-range}
 use Rattle.model.proofs.Commute.{swapped}
 use Rattle.model.proofs.Numbered.{There, number-lt, number-inj}
 use Rattle.model.proofs.Touched.{reads-there, writes-there}

@@ -10,19 +10,21 @@ use lib.Dec.{eqb, ltb, leb}
 use lib.ListN.{length, getD}
 use Rattle.banks.specs.Bank.{pairOf}
 use Rattle.banks.specs.Line.{addresses, has, distinct}
-use Rattle.banks.specs.declared.Way.{Way}
+use Rattle.terms.specs.declared.Way.{Way}
 use Rattle.words.specs.Fields.{fieldsOf}
 use Rattle.words.specs.Table.{decodeOf}
-use Rattle.words.specs.declared.Refusal.{Refusal}
+use Rattle.terms.specs.Counts.{none, plus}
+use Rattle.terms.specs.declared.Counts.{Counts}
+use Rattle.terms.specs.declared.Refusal.{Refusal}
 use Rattle.words.specs.Address.{Address}
 use Rattle.words.specs.Address as A
 use Rattle.words.specs.Insn.{Insn}
 use Rattle.words.specs.Insn as N
 use Rattle.words.specs.Decoded as D
-use Rattle.model.specs.State.{State, Sized}
-use Rattle.model.specs.Place.{Place, Xlat, xlat}
+use Rattle.pieces.specs.State.{State, Sized}
+use Rattle.pieces.specs.Place.{Place, Xlat, xlat}
 use Rattle.model.specs.Prog.{run, asked, spots}
-use Rattle.model.specs.Step.{sem, stepX, countsX, stepped, entered, Outcome, outcome, refusal, stepOf}
+use Rattle.model.specs.Step.{sem, stepX, countsX, stepped, counted, Outcome, outcome, refusal, stepOf}
 use Rattle.model.specs.Run.{RunOutcome, ended, runOf}
 use Rattle.model.specs.Table.{addrIn, codeIn, reads, writes}
 
@@ -71,7 +73,7 @@ pub record Exactly (n op side mask : ℕ) (s : State) : Type 0 where
 -- the single call
 pub record Answered (word side mask : ℕ) (s : State) : Type 0 where
   pub number : Exactly (stepOf word side mask s .number) (fieldsOf word .op) side mask s
-  pub unchanged : (stepOf word side mask s .number ≡ 0 → ⊥) → stepOf word side mask s ≡ outcome (stepOf word side mask s .number) 0 s
+  pub unchanged : (stepOf word side mask s .number ≡ 0 → ⊥) → stepOf word side mask s ≡ outcome (stepOf word side mask s .number) none s
 
 -- the list call: "5, then 6, are checked once at the start"
 pub record Starts (ws : List ℕ) (s : State) (m : ℕ) : Type 0 where
@@ -88,9 +90,9 @@ metAt zero ws s = s
 metAt (suc n) ws s = callAt n ws (metAt n ws s) .after
 
 -- what those n calls count
-abbrev pub countAt : ℕ → List ℕ → State → ℕ
-countAt zero ws s = 0
-countAt (suc n) ws s = countAt n ws s + callAt n ws (metAt n ws s) .accesses
+abbrev pub countAt : ℕ → List ℕ → State → Counts
+countAt zero ws s = none
+countAt (suc n) ws s = plus (countAt n ws s) (callAt n ws (metAt n ws s) .counts)
 
 -- each of the first n triples is accepted where it is met
 abbrev pub AllDone : ℕ → List ℕ → State → Type 0
@@ -130,7 +132,7 @@ pub record ExactlyAt (ws : List ℕ) (s : State) (o : RunOutcome) (e : ℕ) (P :
 pub record ListAnswered (budget : ℕ) (ws : List ℕ) (s : State) : Type 0 where
   pub starts : Starts ws s (runOf budget ws s .number)
   -- "with 5 or 6 both are 0", and the pieces are untouched
-  pub untouched : (Sized s × (length ws % 3 ≡ 0) → ⊥) → runOf budget ws s ≡ ended (runOf budget ws s .number) 0 0 s
+  pub untouched : (Sized s × (length ws % 3 ≡ 0) → ⊥) → runOf budget ws s ≡ ended (runOf budget ws s .number) 0 none s
   pub zero : ExactlyAt ws s (runOf budget ws s) 0 (Finished budget ws s)
   pub seven : ExactlyAt ws s (runOf budget ws s) 7 (Spent budget ws s)
   pub one-to-four : (k : Refusal) → ExactlyAt ws s (runOf budget ws s) (refusal k) (Stopped k budget ws s)
@@ -146,7 +148,7 @@ pub record Demand1 : Type 0 where
 pub record Does (word side mask : ℕ) (s : State) : Type 0 where
   pub insn : Insn
   pub decoded : decodeOf word side mask ≡ D.Insn insn
-  pub gives : stepOf word side mask s ≡ outcome 0 (entered insn s) (stepped insn s)
+  pub gives : stepOf word side mask s ≡ outcome 0 (counted insn s) (stepped insn s)
 
 -- the (bank, cell) pairs of an access's address list
 abbrev pub pairsAt : Way → ℕ → ℕ → List ℕ
@@ -182,7 +184,7 @@ pub record OneByOne (budget : ℕ) (ws : List ℕ) (s : State) (o : RunOutcome) 
 
 pub record Demand2 : Type 0 where
   pub step : (word side mask : ℕ) (s : State) → stepOf word side mask s .number ≡ 0 → Does word side mask s
-  pub accesses : (i : Insn) (s : State) → entered i s ≡ distinct (pairs i s)
+  pub accesses : (i : Insn) (s : State) → counted i s .accesses ≡ distinct (pairs i s)
   pub list : (budget : ℕ) (ws : List ℕ) (s : State) → Sized s → length ws % 3 ≡ 0 → OneByOne budget ws s (runOf budget ws s)
 
 -- ---- Demand 3: two accepted instructions, neither of which writes a place that the other reads or writes, end in the same state in both
@@ -213,8 +215,8 @@ pub record Tabled (i : Insn) (s : State) : Type 0 where
 
 -- two triples in this order: both are accepted, and count and leave what demand 2 says
 pub record InOrder (w side mask w′ side′ mask′ : ℕ) (i j : Insn) (s : State) : Type 0 where
-  pub first : stepOf w side mask s ≡ outcome 0 (entered i s) (stepped i s)
-  pub second : stepOf w′ side′ mask′ (stepped i s) ≡ outcome 0 (entered j s) (stepped j (stepped i s))
+  pub first : stepOf w side mask s ≡ outcome 0 (counted i s) (stepped i s)
+  pub second : stepOf w′ side′ mask′ (stepped i s) ≡ outcome 0 (counted j s) (stepped j (stepped i s))
 
 -- both orders are accepted, each step counts the same in both, and they end in one state
 pub record Swapped (w side mask w′ side′ mask′ : ℕ) (i j : Insn) (s : State) : Type 0 where

@@ -1,7 +1,5 @@
--- What a reader must believe: the state, the places, each instruction's meaning, a step and a run, the table of places, the claims, the
--- places' numbers and the answers about swapping.
-pub mod State
-pub mod Place
+-- What a reader must believe: each instruction's meaning, a step and a run, the table of places, the claims, the places' numbers and the
+-- answers about swapping.
 pub mod Prog
 pub mod Address
 pub mod Vector

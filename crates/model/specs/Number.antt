@@ -2,14 +2,16 @@
 use Prim.Native.Nat.{ℕ, _+_, _*_}
 use mathlib.Core.List.{List, map, _++_}
 use Rattle.words.specs.Insn.{Insn}
-use Rattle.model.specs.State.{State, A, R, C, VC}
-use Rattle.model.specs.Place.{Half, lo, hi, Place, at, vec, byte, xlat}
+use Rattle.pieces.specs.State.{State, A, R, C, VC}
+use Rattle.terms.specs.declared.Half.{Half}
+use Rattle.terms.specs.declared.Half.the-variants.{Low, High}
+use Rattle.pieces.specs.Place.{Place, at, vec, byte, xlat}
 use Rattle.model.specs.Table.{reads, writes}
 
 -- the halves of $a from 0, $r from 64, $v from 96, the flags of $c from 128, of $vc from 136, the data store's bytes from 144
 abbrev pub side : Half → ℕ
-side lo = 0
-side hi = 1
+side Low = 0
+side High = 1
 
 abbrev pub number : Place → ℕ
 number (at A n h) = 2 * n + side h

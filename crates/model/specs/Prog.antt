@@ -6,9 +6,11 @@ use mathlib.Core.List.{List, [], _∷_, map}
 use lib.Dec.{ltb}
 use Rattle.banks.specs.Bank.{pairOf}
 use Rattle.banks.specs.Line.{distinct}
-use Rattle.banks.specs.declared.Way.{Way}
-use Rattle.model.specs.State.{State}
-use Rattle.model.specs.Place.{Name, Addr, Place, Xlat, Val, get, put, place}
+use Rattle.terms.specs.declared.Way.{Way}
+use Rattle.terms.specs.declared.Counts.{Counts}
+use Rattle.terms.specs.Counts.{none, entering}
+use Rattle.pieces.specs.State.{State}
+use Rattle.pieces.specs.Place.{Name, Addr, Place, Xlat, Val, get, put, place}
 
 infixl 20 _>>=_
 infix 30 _≔_
@@ -66,10 +68,7 @@ pub record Did : Type 0 where
 abbrev pub only : List Write → Did
 only ws = record { writes = ws; access = idle }
 
--- what one step hands back besides the state
-pub record Counts : Type 0 where
-  pub accesses : ℕ
-
+-- what one step hands back
 pub record Done : Type 0 where
   pub writes : List Write
   pub counts : Counts
@@ -79,9 +78,9 @@ abbrev pub entered : List Addr → ℕ
 entered bs = distinct (map (λ (b : Addr). pairOf (b .stride) (b .addr)) bs)
 
 abbrev pub countsOf : Access → Counts
-countsOf idle = record { accesses = 0 }
-countsOf (load way c bs) = record { accesses = entered bs }
-countsOf (store way c bs) = record { accesses = entered bs }
+countsOf idle = none
+countsOf (load way c bs) = entering (entered bs)
+countsOf (store way c bs) = entering (entered bs)
 
 abbrev pub done : Did → Done
 done d = record { writes = d .writes; counts = countsOf (d .access) }

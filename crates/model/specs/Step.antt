@@ -3,15 +3,18 @@ use Prim.Native.Nat.{ℕ}
 use mathlib.Core.Bool.{cond}
 use mathlib.Core.List.{[]}
 use Rattle.words.specs.Table.{decodeOf}
-use Rattle.words.specs.declared.Refusal.{Refusal}
-use Rattle.words.specs.declared.Refusal.the-variants.{Foreign, Undocumented, SideIndex, SideMask}
+use Rattle.terms.specs.Answers.{number}
+use Rattle.terms.specs.Counts.{none}
+use Rattle.terms.specs.declared.Counts.{Counts}
+use Rattle.terms.specs.declared.Refusal.{Refusal}
+use Rattle.terms.specs.declared.End.the-variants as E
 use Rattle.words.specs.Insn.{Insn}
 use Rattle.words.specs.Insn as N
 use Rattle.words.specs.Decoded.{Decoded}
 use Rattle.words.specs.Decoded as D
-use Rattle.model.specs.State.{State, sizedOf}
-use Rattle.model.specs.Place.{Xlat, xlat}
-use Rattle.model.specs.Prog.{Prog, ret, _>>=_, run, puts, Did, Done, Counts, only, done}
+use Rattle.pieces.specs.State.{State, sizedOf}
+use Rattle.pieces.specs.Place.{Xlat, xlat}
+use Rattle.model.specs.Prog.{Prog, ret, _>>=_, run, puts, Did, Done, only, done}
 use Rattle.model.specs.Address.{address}
 use Rattle.model.specs.Vector.{vector}
 
@@ -35,34 +38,31 @@ countsX X i s = run X (sem i) s .counts
 unfoldable pub stepped : Insn → State → State
 stepped i s = stepX xlat i s
 
-unfoldable pub entered : Insn → State → ℕ
-entered i s = countsX xlat i s .accesses
+unfoldable pub counted : Insn → State → Counts
+counted i s = countsX xlat i s
 
--- what a call for one triple leaves: the answer's number, the cell accesses, the six pieces
+-- what a call for one triple leaves: the answer's number, what is counted, the six pieces
 pub record Outcome : Type 0 where
   pub number : ℕ
-  pub accesses : ℕ
+  pub counts : Counts
   pub after : State
 
-abbrev pub outcome : ℕ → ℕ → State → Outcome
-outcome n k s = record { number = n; accesses = k; after = s }
+abbrev pub outcome : ℕ → Counts → State → Outcome
+outcome n c s = record { number = n; counts = c; after = s }
 
--- the paper's number of each refusal of a triple
+-- the number of each refusal of a triple
 abbrev pub refusal : Refusal → ℕ
-refusal Foreign = 1
-refusal Undocumented = 2
-refusal SideIndex = 3
-refusal SideMask = 4
+refusal k = number (E.Refused k)
 
--- 0: done. A refused instruction changes nothing and counts nothing
+-- a refused instruction changes nothing and counts nothing
 abbrev pub byDecoded : Decoded → State → Outcome
-byDecoded (D.Insn i) s = outcome 0 (entered i s) (stepped i s)
-byDecoded (D.Refused k) s = outcome (refusal k) 0 s
+byDecoded (D.Insn i) s = outcome (number E.Done) (counted i s) (stepped i s)
+byDecoded (D.Refused k) s = outcome (refusal k) none s
 
 -- one triple on pieces of right lengths
 unfoldable pub tripleOf : ℕ → ℕ → ℕ → State → Outcome
 tripleOf word side mask s = byDecoded (decodeOf word side mask) s
 
--- the single call: 5 where a piece has another length
+-- the single call
 unfoldable pub stepOf : ℕ → ℕ → ℕ → State → Outcome
-stepOf word side mask s = cond (sizedOf s) (tripleOf word side mask s) (outcome 5 0 s)
+stepOf word side mask s = cond (sizedOf s) (tripleOf word side mask s) (outcome (number E.Lengths) none s)

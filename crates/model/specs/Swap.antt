@@ -5,11 +5,13 @@ use mathlib.Core.List.{List, [], _∷_}
 use lib.Dec.{eqb, leb}
 use lib.ListN.{length}
 use lib.Seq.{sets}
+use Rattle.terms.specs.Answers.{number}
+use Rattle.terms.specs.declared.End.the-variants as E
 use Rattle.words.specs.Table.{decodeOf}
 use Rattle.words.specs.Insn.{Insn}
 use Rattle.words.specs.Decoded.{Decoded}
 use Rattle.words.specs.Decoded as D
-use Rattle.model.specs.State.{State, sizedOf}
+use Rattle.pieces.specs.State.{State, sizedOf}
 use Rattle.model.specs.Step.{refusal}
 use Rattle.model.specs.Number.{readsOf, writesOf, touchesOf}
 
@@ -53,11 +55,11 @@ swapOutcome n v = record { number = n; verdict = v }
 abbrev pub swapDecoded : Decoded → Decoded → State → SwapOutcome
 swapDecoded (D.Refused k) e s = swapOutcome (refusal k) free
 swapDecoded (D.Insn i) (D.Refused k) s = swapOutcome (refusal k) free
-swapDecoded (D.Insn i) (D.Insn j) s = swapOutcome 0 (verdictOf i j s)
+swapDecoded (D.Insn i) (D.Insn j) s = swapOutcome (number E.Done) (verdictOf i j s)
 
 unfoldable pub swapOf : (w side mask w′ side′ mask′ : ℕ) → State → SwapOutcome
 swapOf w side mask w′ side′ mask′ s =
-    cond (sizedOf s) (swapDecoded (decodeOf w side mask) (decodeOf w′ side′ mask′) s) (swapOutcome 5 free)
+    cond (sizedOf s) (swapDecoded (decodeOf w side mask) (decodeOf w′ side′ mask′) s) (swapOutcome (number E.Lengths) free)
 
 -- what places leaves: the answer's number, how many places are read and written, and the buffer, whose first entries are their numbers
 pub record PlacesOutcome : Type 0 where
@@ -71,9 +73,9 @@ placesOutcome n r w b = record { number = n; reads = r; writes = w; buffer = b }
 
 abbrev pub placesDecoded : Decoded → State → List ℕ → PlacesOutcome
 placesDecoded (D.Refused k) s b = placesOutcome (refusal k) 0 0 b
-placesDecoded (D.Insn i) s b = placesOutcome 0 (length (readsOf i s)) (length (writesOf i s)) (sets b 0 (touchesOf i s))
+placesDecoded (D.Insn i) s b = placesOutcome (number E.Done) (length (readsOf i s)) (length (writesOf i s)) (sets b 0 (touchesOf i s))
 
--- 5 also for a buffer of fewer than 22 numbers, which is the most that an instruction touches
+-- refused as by a wrong length: a buffer of fewer than 22 numbers, which is the most that an instruction touches
 unfoldable pub placesOf : (w side mask : ℕ) → State → List ℕ → PlacesOutcome
 placesOf w side mask s b =
-    cond (sizedOf s && leb 22 (length b)) (placesDecoded (decodeOf w side mask) s b) (placesOutcome 5 0 0 b)
+    cond (sizedOf s && leb 22 (length b)) (placesDecoded (decodeOf w side mask) s b) (placesOutcome (number E.Lengths) 0 0 b)

@@ -6,10 +6,10 @@ use lib.Bits.{bitOr}
 use lib.Dec.{ltb}
 use lib.ListN.{getD}
 use Rattle.banks.specs.Line.{addresses}
-use Rattle.banks.specs.declared.Way.{Way}
-use Rattle.banks.specs.declared.Way.the-variants.{Horizontal, Vertical, Scalar}
-use Rattle.words.specs.declared.Half as H
-use Rattle.words.specs.declared.Half.the-variants.{Low, High}
+use Rattle.terms.specs.declared.Way.{Way}
+use Rattle.terms.specs.declared.Way.the-variants.{Horizontal, Vertical, Scalar}
+use Rattle.terms.specs.declared.Half as H
+use Rattle.terms.specs.declared.Half.the-variants.{Low, High}
 use Rattle.words.specs.declared.Increment.{Increment}
 use Rattle.words.specs.declared.Increment.the-variants as I
 use Rattle.words.specs.Second.{Second}
@@ -22,8 +22,8 @@ use Rattle.words.specs.Vector.{Vector}
 use Rattle.words.specs.Vector as W
 use Rattle.words.specs.Insn.{Insn}
 use Rattle.words.specs.Insn as N
-use Rattle.model.specs.State.{State}
-use Rattle.model.specs.Place.{Place, vec, byte, Xlat, alo, ahi, reg, long, short, signs, zeros}
+use Rattle.pieces.specs.State.{State}
+use Rattle.pieces.specs.Place.{Place, vec, byte, Xlat, alo, ahi, reg, long, short, signs, zeros}
 
 -- "both halves"
 abbrev pub halves : ℕ → List Place

@@ -1,4 +1,4 @@
--- What each vector instruction does with its registers. What it does with each component is in the crate lanes, specs/Lane.antt.
+-- What each vector instruction does with its registers. What it does with each component is in the crate lane, specs/Lane.antt.
 -- Document 01, "Vector instructions".
 use Prim.Native.Nat.{ℕ, _+_, _*_, _%_}
 use mathlib.Core.List.{List, [], _∷_}
@@ -13,7 +13,7 @@ use Rattle.words.specs.Input.{Input}
 use Rattle.words.specs.Input.{Mask, Signs}
 use Rattle.words.specs.Vector.{Vector}
 use Rattle.words.specs.Vector.{Arith, Shift, Clip, Add9, MinAbs, Bitop, Logic, Cmpad, Swz, Mov, MovImm, MovFlags}
-use Rattle.model.specs.Place.{vec, signs, zeros}
+use Rattle.pieces.specs.Place.{vec, signs, zeros}
 use Rattle.model.specs.Prog.{Prog, ret, _>>=_, read, Write, _≔_, below4, Did, only}
 
 -- $vc[VCDST].sf and .zf

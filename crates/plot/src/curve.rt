@@ -2,8 +2,8 @@
 ghost use Prim.Native.Nat.{_≤_, _<_};
 use crate::svg;
 use crate::svg::put;
-use banks::Way;
-use draws::print::text;
+use terms::Way;
+use text::print::text;
 
 // The bank of address i of the load, as a bit.
 fn bit_at(code: usize, column: usize, i: usize) -> u32

@@ -3,8 +3,8 @@ mod curve;
 mod map;
 mod svg;
 
-use draws::digits;
 use libc::STDERR_FILENO;
+use text::digits;
 
 fn usage() {
     io::write_all(

@@ -2,7 +2,7 @@
 ghost use Prim.Native.Nat.{_<_};
 use crate::svg;
 use crate::svg::put;
-use draws::print::text;
+use text::print::text;
 
 fn name(code: usize)
     requires { ⌜ code < 4 ⌝ }

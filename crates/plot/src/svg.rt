@@ -1,8 +1,8 @@
 // What both pictures share: numbers between bytes, the start of a picture, the names of strides.
 ghost use Prim.Native.Nat.{_≤_, _<_};
-use banks::Way;
-use draws::print::text;
 use libc::STDOUT_FILENO;
+use terms::Way;
+use text::print::text;
 
 // A number, and the bytes before and after it.
 pub fn put(before: &[u8], n: usize, after: &[u8]) {

@@ -6,16 +6,17 @@ use native.Mathlib.Omega.{arith}
 use native.Mathlib.Nat.{add-zero, mul-add}
 use lib.ListN.{length, drop}
 use Rattle.banks.specs.Bank.{at, turnOf, bankOf}
-use Rattle.banks.specs.Line.{from, line, places, addresses, startOf, stepOf, countOf, strideOf, rowStart, wordStart, columnStart}
-use Rattle.banks.specs.declared.Way.{Way}
-use Rattle.banks.specs.declared.Way.the-variants.{Horizontal, Vertical, Scalar}
+use Rattle.banks.specs.Line.{from, line, addresses, startOf, stepOf, countOf, strideOf, rowStart, wordStart, columnStart}
+use Rattle.banks.specs.inner.Access.{places}
+use Rattle.terms.specs.declared.Way.{Way}
+use Rattle.terms.specs.declared.Way.the-variants.{Horizontal, Vertical, Scalar}
 use Rattle.banks.proofs.OneToOne.{bank-lt}
 use Rattle.banks.proofs.Places.{way-lt}
 use Rattle.banks.proofs.Distinct.{map-ext}
 use Rattle.banks.proofs.Banks.{row-bank, column-bank, column0-bank}
 use Rattle.banks.proofs.Masks.{at-line}
-use Rattle.store.specs.Steps.{upto, stepped, paired, inBank}
-use Rattle.store.specs.Store.{loaded, stored}
+use Rattle.store.specs.inner.Steps.{upto, stepped, paired, inBank}
+use Rattle.store.specs.inner.Loads.{loaded, stored}
 use Rattle.store.proofs.Rows.{row-loads, row-stores}
 use Rattle.store.proofs.Steps.{stepped-none}
 

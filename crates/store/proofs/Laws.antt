@@ -9,8 +9,8 @@ use lib.ListN.{length, getD, set, drop, length-map, length-set}
 use lib.Seq.{ext-getD, drop-cons, drop-drop, getD-drop, getD-set-same, getD-set-other}
 use Rattle.banks.specs.Line.{from}
 use Rattle.banks.proofs.Places.{length-from, getD-from}
-use Rattle.store.specs.Steps.{upto}
-use Rattle.store.specs.Store.{loaded, stored}
+use Rattle.store.specs.inner.Steps.{upto}
+use Rattle.store.specs.inner.Loads.{loaded, stored}
 
 length-loaded : (ds ps : List ℕ) → length (loaded ds ps) ≡ length ps
 unfolding loaded

@@ -7,8 +7,8 @@ use native.Mathlib.Nat.{not-suc-le-zero}
 use native.Mathlib.Decide.{ℕ-discrete}
 use lib.ListN.{length, getD, set, drop, length-set, drop-of-length-le}
 use lib.Seq.{getD-set-same, getD-set-other}
-use Rattle.store.specs.Steps.{upto}
-use Rattle.store.specs.Store.{loaded, stored}
+use Rattle.store.specs.inner.Steps.{upto}
+use Rattle.store.specs.inner.Loads.{loaded, stored}
 use Rattle.store.proofs.Laws.{length-upto, getD-upto, loads-by, stored-next, stored-none}
 
 -- ---- the first i of sixteen bytes are those of xs at the places g 0, g 1, ..

@@ -6,8 +6,8 @@ use native.Mathlib.Omega.{arith}
 use native.Mathlib.Decide.{ℕ-discrete}
 use lib.ListN.{length, getD, drop}
 use lib.Seq.{ext-getD, getD-drop}
-use Rattle.store.specs.Steps.{upto, inBank}
-use Rattle.store.specs.Store.{loaded, stored}
+use Rattle.store.specs.inner.Steps.{upto, inBank}
+use Rattle.store.specs.inner.Loads.{loaded, stored}
 use Rattle.store.proofs.Laws.{length-stored, getD-loads, loads-loads, stored-not, stored-at}
 
 pub row-loads : (l b : ℕ) (ds : List ℕ) → b < 16

@@ -3,7 +3,7 @@ use mathlib.Core.Path.{_≡_}
 use Prim.Native.Nat.{ℕ, _+_, _*_, _/_, _%_, _<_}
 use native.Mathlib.Omega.{arith}
 use native.Mathlib.Nat.{add-mul}
-use Rattle.store.specs.Steps.{stepped, paired}
+use Rattle.store.specs.inner.Steps.{stepped, paired}
 
 module _ (first step : ℕ) where
   pub stepped-none : first < 8192 → first ≡ stepped first step 0

@@ -1,3 +1,3 @@
--- The definitions of loads, stores and the raw view.
+-- The raw view. What `inner` holds says of loads and stores what the code does, place by place.
 pub mod Store
-pub mod Steps
+pub mod inner

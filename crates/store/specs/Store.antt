@@ -1,26 +1,9 @@
--- Reading and writing a list of places of a store, words and their bytes, and a bank's own part of a store.
-use Prim.Native.Nat.{ℕ, _+_, _*_, _/_, _%_}
+-- The raw view: a bank's own part of a store.
+use Prim.Native.Nat.{ℕ, _*_}
 use mathlib.Core.Bool.{cond, _&&_}
-use mathlib.Core.List.{List, [], _∷_, map}
-use lib.ListN.{length, getD, set, take, drop}
+use mathlib.Core.List.{List, []}
+use lib.ListN.{length, take, drop}
 use lib.Dec.{eqb, ltb}
-
--- the bytes at some places, in their order
-unfoldable pub loaded : List ℕ → List ℕ → List ℕ
-loaded ds ps = map (λ p. getD ds p 0) ps
-
--- a byte to each of some places, one after the other
-unfoldable pub stored : List ℕ → List ℕ → List ℕ → List ℕ
-stored ds [] vs = ds
-stored ds (p ∷ ps) vs = stored (set ds p (getD vs 0 0)) ps (drop 1 vs)
-
--- a word of its bytes, low first: document 01, "Byte k of `$r` is bits 8k to 8k+7"
-unfoldable pub wordOf : List ℕ → ℕ
-wordOf [] = 0
-wordOf (b ∷ bs) = b + wordOf bs * 256
-
-unfoldable pub bytesOf : ℕ → List ℕ
-bytesOf w = w % 256 ∷ w / 256 % 256 ∷ w / 65536 % 256 ∷ w / 16777216 % 256 ∷ []
 
 -- "given a bank from 0 to 15 and a store of 8,192 bytes, it hands back that bank's 512 bytes as a part of the lent store; otherwise an
 -- empty part" (document 01, "Translation and the sixteen banks")

@@ -1,14 +1,16 @@
 // Loads and stores of the data store, over a lent slice of 8,192 bytes, and the raw view of a bank.
-use banks::Way;
+use terms::Way;
 ghost use mathlib.Core.Path.{_≡_};
 ghost use mathlib.Core.List.{[], _∷_};
 ghost use Prim.Native.Nat.{_+_, _/_, _%_, _<_, _≤_};
 ghost use lib.ListN.{length, drop};
 ghost use Rattle.banks.specs.Bank.{at};
-ghost use Rattle.banks.specs.Line.{addresses, places, startOf, strideOf};
-ghost use Rattle.banks.specs.declared.Way.the-variants.{Horizontal, Vertical, Scalar};
-ghost use Rattle.store.specs.Steps.{upto, stepped, paired, inBank};
-ghost use Rattle.store.specs.Store.{loaded, stored, wordOf, bytesOf, bankView};
+ghost use Rattle.banks.specs.Line.{addresses, startOf, strideOf};
+ghost use Rattle.banks.specs.inner.Access.{places};
+ghost use Rattle.terms.specs.declared.Way.the-variants.{Horizontal, Vertical, Scalar};
+ghost use Rattle.store.specs.inner.Steps.{upto, stepped, paired, inBank};
+ghost use Rattle.store.specs.inner.Loads.{loaded, stored, wordOf, bytesOf};
+ghost use Rattle.store.specs.Store.{bankView};
 
 // ---- rows: a line's byte in each of the sixteen banks, from one bank on round
 

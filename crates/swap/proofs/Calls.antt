@@ -6,25 +6,29 @@ use mathlib.Core.List.{List, [], _∷_}
 use borrow.Author.Tests.{le-leb, lt-leb}
 use lib.ListN.{length, drop}
 use lib.Seq.{sets}
-use Rattle.words.specs.Bounded.{Bounded, BoundedD}
+use Rattle.terms.specs.declared.Refusal.{Refusal}
+use Rattle.terms.specs.declared.End.{End}
+use Rattle.terms.specs.declared.End.the-variants as E
+use Rattle.words.specs.inner.Bounded.{Bounded, BoundedD}
 use Rattle.words.specs.Table.{decodeOf}
-use Rattle.words.specs.declared.Refusal.{Refusal}
 use Rattle.words.specs.Insn.{Insn}
 use Rattle.words.specs.Decoded.{Decoded}
 use Rattle.words.specs.Decoded as D
 use Rattle.words.proofs.Bound.{bounded}
-use Rattle.model.specs.State.{State, sizedOf}
-use Rattle.model.specs.Swap.{has, Verdict, verdict, firstIn, free, verdictOf, SwapOutcome, swapOutcome, swapOf, PlacesOutcome, placesOutcome, placesOf}
-use Rattle.swap.specs.Listing.{held, lent, footprintOf}
-use Rattle.swap.specs.Answers.{firstOf, swapAnswer, unswapped, listAnswer, unlisted}
-use Rattle.swap.specs.declared.Touches.{Touches}
+use Rattle.pieces.specs.State.{State, sizedOf}
+use Rattle.model.specs.Number.{touchesOf, readsOf}
+use Rattle.model.specs.Swap.{has, Verdict, verdict, firstIn, free, verdictOf, swapOutcome, swapOf, PlacesOutcome, placesOutcome, placesOf}
+use Rattle.model.proofs.Touched.{touches-le}
+use Rattle.footprint.specs.inner.Numbers.{held, lent, footprintOf}
+use Rattle.footprint.specs.declared.Touches.{Touches}
+use Rattle.footprint.proofs.Foot.{numbersOf, lent-footprint, footprint-is, held-all, held-written, reads-le, writes-are}
+use Rattle.swap.specs.Answers.{told, swapAnswer, listAnswer}
+use Rattle.swap.specs.inner.Calls.{firstOf, stopped}
 use Rattle.swap.specs.declared.Found.{Found}
 use Rattle.swap.specs.declared.Found.the-variants as F
-use Rattle.swap.specs.declared.Swapping.{Swapping}
-use Rattle.swap.specs.declared.Swapping.the-variants as S
+use Rattle.swap.specs.declared.Verdict.the-variants as T
+use Rattle.swap.specs.declared.Swap.{Swap}
 use Rattle.swap.specs.declared.Listed.{Listed}
-use Rattle.swap.specs.declared.Listed.the-variants as L
-use Rattle.swap.proofs.Foot.{lent-footprint, held-all, held-written, count-le, reads-le, reads-are, writes-are}
 
 -- ---- the search
 
@@ -52,29 +56,29 @@ abbrev compared : Touches → Touches → Verdict
 compared f g = firstIn (written f) (held (g .list)) 1 (firstIn (written g) (held (f .list)) 2 free)
 
 -- a search that found z
-told : (xs ys : List ℕ) (w : ℕ) (v : Verdict) {x : Found} (z : Found) → x ≡ firstOf xs ys → x ≡ z → firstIn xs ys w v ≡ verdictIf z w v
-told xs ys w v z e h = searched xs ys w v ∙ ap (λ (y : Found). verdictIf y w v) (sym e ∙ h)
+found : (xs ys : List ℕ) (w : ℕ) (v : Verdict) {x : Found} (z : Found) → x ≡ firstOf xs ys → x ≡ z → firstIn xs ys w v ≡ verdictIf z w v
+found xs ys w v z e h = searched xs ys w v ∙ ap (λ (y : Found). verdictIf y w v) (sym e ∙ h)
 
 module _ (f g : Touches) {x : Found} (e : x ≡ firstOf (written f) (held (g .list))) where
   one : (z : Found) → x ≡ z → compared f g ≡ verdictIf z 1 (firstIn (written g) (held (f .list)) 2 free)
-  one z = told (written f) (held (g .list)) 1 (firstIn (written g) (held (f .list)) 2 free) z e
+  one z = found (written f) (held (g .list)) 1 (firstIn (written g) (held (f .list)) 2 free) z e
 
-  pub clash-first : {p : ℕ} → x ≡ F.At p → swapAnswer (S.Clash p 1) ≡ swapOutcome 0 (compared f g)
+  pub clash-first : {p : ℕ} → x ≡ F.At p → told (T.Clash p 1) ≡ compared f g
   unfolding verdictIf
-  clash-first {p} h = ap (swapOutcome 0) (sym (one (F.At p) h))
+  clash-first {p} h = sym (one (F.At p) h)
 
   module _ (h : x ≡ F.Nowhere) {y : Found} (e′ : y ≡ firstOf (written g) (held (f .list))) where
     two : (z : Found) → y ≡ z → compared f g ≡ verdictIf z 2 free
     unfolding verdictIf
-    two z k = one F.Nowhere h ∙ told (written g) (held (f .list)) 2 free z e′ k
+    two z k = one F.Nowhere h ∙ found (written g) (held (f .list)) 2 free z e′ k
 
-    pub clash-second : {p : ℕ} → y ≡ F.At p → swapAnswer (S.Clash p 2) ≡ swapOutcome 0 (compared f g)
+    pub clash-second : {p : ℕ} → y ≡ F.At p → told (T.Clash p 2) ≡ compared f g
     unfolding verdictIf
-    clash-second {p} k = ap (swapOutcome 0) (sym (two (F.At p) k))
+    clash-second {p} k = sym (two (F.At p) k)
 
-    pub clash-none : y ≡ F.Nowhere → swapAnswer S.Free ≡ swapOutcome 0 (compared f g)
+    pub clash-none : y ≡ F.Nowhere → told T.Free ≡ compared f g
     unfolding verdictIf
-    clash-none k = ap (swapOutcome 0) (sym (two F.Nowhere k))
+    clash-none k = sym (two F.Nowhere k)
 
 -- ---- decode
 
@@ -84,62 +88,72 @@ named word side mask e f = subst BoundedD f (subst⁻¹ BoundedD e (bounded word
 
 -- ---- footprints
 
+-- all that an instruction touches
+abbrev all : Insn → State → Touches
+all i s = record { list = numbersOf (touchesOf i s); reads = length (readsOf i s) }
+
 module _ (i : Insn) (s : State) {f : Touches} (e : f ≡ footprintOf i (lent (s .a))) where
-  -- it is the footprint in the whole state
-  is : f ≡ footprintOf i s
-  is = e ∙ lent-footprint i s
+  is : f ≡ all i s
+  is = e ∙ lent-footprint i s ∙ footprint-is i s
 
   pub small : f .list .count ≤ 22
-  small = rw is (count-le i s)
+  small = rw is (touches-le i s)
 
   pub ordered : f .reads ≤ f .list .count
   ordered = rw is (reads-le i s)
 
-verdict-of : (i j : Insn) (s : State) → compared (footprintOf i s) (footprintOf j s) ≡ verdictOf i j s
+verdict-of : (i j : Insn) (s : State) → compared (all i s) (all j s) ≡ verdictOf i j s
 unfolding verdictOf
 verdict-of i j s = rw (held-written i s, held-written j s, held-all i s, held-all j s)
 
 -- ---- may_swap
 
+abbrev unswapped : End → Swap
+unswapped e = record { end = e; verdict = T.Free }
+
 module _ (w side mask w′ side′ mask′ : ℕ) (s : State) where
-  pub unfit : sizedOf s ≡ false → swapAnswer S.Lengths ≡ swapOf w side mask w′ side′ mask′ s
+  pub unfit : {x : Swap} → x ≡ unswapped E.Lengths → sizedOf s ≡ false → swapAnswer x ≡ swapOf w side mask w′ side′ mask′ s
   unfolding swapOf
-  unfit e = rw e refl
+  unfit g e = rw (g, e) refl
 
   module _ (fit : sizedOf s ≡ true) {d : Decoded} (e : d ≡ decodeOf w side mask) where
-    pub first-refused : {k : Refusal} {x : Swapping} → d ≡ D.Refused k → x ≡ unswapped d → swapAnswer x ≡ swapOf w side mask w′ side′ mask′ s
+    pub first-refused : {k : Refusal} {x : Swap} {z : End} → d ≡ D.Refused k → z ≡ stopped d → x ≡ unswapped z
+        → swapAnswer x ≡ swapOf w side mask w′ side′ mask′ s
     unfolding swapOf
-    first-refused f g = rw (g, fit, ← e, f) refl
+    first-refused f h g = rw (g, h, fit, ← e, f) refl
 
     module _ {i : Insn} (f : d ≡ D.Insn i) {d′ : Decoded} (e′ : d′ ≡ decodeOf w′ side′ mask′) where
-      pub second-refused : {k : Refusal} {x : Swapping} → d′ ≡ D.Refused k → x ≡ unswapped d′ → swapAnswer x ≡ swapOf w side mask w′ side′ mask′ s
+      pub second-refused : {k : Refusal} {x : Swap} {z : End} → d′ ≡ D.Refused k → z ≡ stopped d′ → x ≡ unswapped z
+          → swapAnswer x ≡ swapOf w side mask w′ side′ mask′ s
       unfolding swapOf
-      second-refused f′ g = rw (g, fit, ← e, f, ← e′, f′) refl
+      second-refused f′ h g = rw (g, h, fit, ← e, f, ← e′, f′) refl
 
-      pub swapping : {j : Insn} {m n : Touches} {o : SwapOutcome} → d′ ≡ D.Insn j → m ≡ footprintOf i (lent (s .a)) → n ≡ footprintOf j (lent (s .a))
-          → o ≡ swapOutcome 0 (compared m n) → o ≡ swapOf w side mask w′ side′ mask′ s
+      pub swapping : {j : Insn} {m n : Touches} {v : Verdict} → d′ ≡ D.Insn j → m ≡ footprintOf i (lent (s .a)) → n ≡ footprintOf j (lent (s .a))
+          → v ≡ compared m n → swapOutcome 0 v ≡ swapOf w side mask w′ side′ mask′ s
       unfolding swapOf
       swapping {j} f′ p q g = rw (g, is i s p, is j s q, verdict-of i j s, fit, ← e, f, ← e′, f′) refl
 
 -- ---- places
 
+abbrev unlisted : End → Listed
+unlisted e = record { end = e; reads = 0; writes = 0 }
+
 module _ (w side mask : ℕ) (s : State) (b : List ℕ) where
-  pub unfit-pieces : sizedOf s ≡ false → listAnswer L.Lengths b ≡ placesOf w side mask s b
+  pub unfit-pieces : {x : Listed} → x ≡ unlisted E.Lengths → sizedOf s ≡ false → listAnswer x b ≡ placesOf w side mask s b
   unfolding placesOf
-  unfit-pieces e = rw e refl
+  unfit-pieces g e = rw (g, e) refl
 
   module _ (fit : sizedOf s ≡ true) where
-    pub unfit-buffer : length b < 22 → listAnswer L.Lengths b ≡ placesOf w side mask s b
+    pub unfit-buffer : {x : Listed} → x ≡ unlisted E.Lengths → length b < 22 → listAnswer x b ≡ placesOf w side mask s b
     unfolding placesOf
-    unfit-buffer h = rw (fit, lt-leb 22 (length b) h) refl
+    unfit-buffer g h = rw (g, fit, lt-leb 22 (length b) h) refl
 
     module _ (wide : 22 ≤ length b) {d : Decoded} (e : d ≡ decodeOf w side mask) where
-      pub refused : {k : Refusal} {x : Listed} → d ≡ D.Refused k → x ≡ unlisted d → listAnswer x b ≡ placesOf w side mask s b
+      pub refused : {k : Refusal} {x : Listed} {z : End} → d ≡ D.Refused k → z ≡ stopped d → x ≡ unlisted z → listAnswer x b ≡ placesOf w side mask s b
       unfolding placesOf
-      refused f g = rw (g, fit, le-leb 22 (length b) wide, ← e, f) refl
+      refused f h g = rw (g, h, fit, le-leb 22 (length b) wide, ← e, f) refl
 
-      pub listing : {i : Insn} {m : Touches} {o : PlacesOutcome} → d ≡ D.Insn i → m ≡ footprintOf i (lent (s .a))
+      pub listed : {i : Insn} {m : Touches} {o : PlacesOutcome} → d ≡ D.Insn i → m ≡ footprintOf i (lent (s .a))
           → o ≡ placesOutcome 0 (m .reads) (m .list .count - m .reads) (sets b 0 (held (m .list))) → o ≡ placesOf w side mask s b
       unfolding placesOf
-      listing {i} f p g =
-          rw (g, is i s p, writes-are i s, reads-are i s, held-all i s, fit, le-leb 22 (length b) wide, ← e, f) refl
+      listed {i} f p g = rw (g, is i s p, writes-are i s, held-all i s, fit, le-leb 22 (length b) wide, ← e, f) refl

@@ -1,21 +1,28 @@
--- What a listing lists, number by number: for the loops that go over it.
+-- What a list holds, number by number: for the loops that go over it.
 use mathlib.Core.Path.{_≡_, sym, ap, _∙_}
 use Prim.Native.Nat.{ℕ, suc, _+_, _≤_, _<_}
 use native.Mathlib.Omega.{arith}
+use native.Mathlib.Nat.{add-zero, add-suc, suc-add}
 use native.Mathlib.Numerals.{add-one}
 use mathlib.Core.Bool.{true, false}
-use mathlib.Core.List.{List, [], _∷_}
+use mathlib.Core.List.{List, [], _∷_, _++_}
 use borrow.Author.Tests.{eq-eqb, ne-eqb}
 use lib.ListN.{length, getD, set, take, drop, drop-of-length-le}
 use lib.Seq.{sets, length-take-le, take-suc, drop-cons, getD-take}
 use Rattle.model.specs.Swap.{has}
-use Rattle.swap.specs.Listing.{held}
-use Rattle.swap.specs.Answers.{firstOf}
-use Rattle.swap.specs.declared.Listing.{Listing}
+use Rattle.footprint.specs.inner.Numbers.{held}
+use Rattle.swap.specs.inner.Calls.{firstOf}
+use Rattle.footprint.specs.declared.Numbers.{Numbers}
 use Rattle.swap.specs.declared.Found.the-variants as F
-use Rattle.swap.proofs.Grown.{sets-append}
 
-module _ (l : Listing) (n : length (l .numbers) ≡ 22) (k : l .count ≤ 22) where
+-- stores that go on where others ended
+sets-append : (b : List ℕ) (i : ℕ) (xs ys : List ℕ) → sets (sets b i xs) (i + length xs) ys ≡ sets b i (xs ++ ys)
+sets-append b i [] ys = ap (λ (k : ℕ). sets b k ys) (add-zero i)
+sets-append b i (x ∷ xs) ys =
+    let e : i + suc (length xs) ≡ suc i + length xs = add-suc i (length xs) ∙ sym (suc-add i (length xs)) in
+    ap (λ (k : ℕ). sets (sets b i (x ∷ xs)) k ys) e ∙ sets-append _ (suc i) xs ys
+
+module _ (l : Numbers) (n : length (l .numbers) ≡ 22) (k : l .count ≤ 22) where
   pub length-held : length (held l) ≡ l .count
   length-held = length-take-le (l .count) (l .numbers) (omega arith)
 

@@ -1,3 +1,3 @@
--- What is listed, and the numbers and values of each answer.
-pub mod Listing
+-- What a Rattle caller gets. What `inner` holds is inner to the code.
 pub mod Answers
+pub mod inner

@@ -2,15 +2,16 @@
 ghost use mathlib.Core.Path.{_≡_};
 ghost use Prim.Native.Nat.{_≤_};
 ghost use lib.ListN.{drop};
-ghost use Rattle.model.specs.Swap.{has, firstIn, free, swapOutcome};
-ghost use Rattle.swap.specs.Listing.{held};
-ghost use Rattle.swap.specs.Answers.{firstOf, swapAnswer};
+ghost use Rattle.model.specs.Swap.{has, firstIn, free};
+ghost use Rattle.footprint.specs.inner.Numbers.{held};
+ghost use Rattle.swap.specs.Answers.{told};
+ghost use Rattle.swap.specs.inner.Calls.{firstOf};
 use crate::Found;
-use crate::Listing;
-use crate::Swapping;
-use crate::Touches;
+use crate::Verdict;
+use footprint::Numbers;
+use footprint::Touches;
 
-fn is_in(x: u32, l: Listing) -> bool
+fn is_in(x: u32, l: Numbers) -> bool
     requires { ⌜ l .count ≤ 22 ⌝ }
     ensures { λ r. ⌜ r ≡ has x (held l) ⌝ }
 {
@@ -25,7 +26,7 @@ fn is_in(x: u32, l: Listing) -> bool
 }
 
 // The first of l, from index `from` on, that is in m too.
-fn first(l: Listing, from: usize, m: Listing) -> Found
+fn first(l: Numbers, from: usize, m: Numbers) -> Found
     requires { ⌜ (l .count ≤ 22) × (m .count ≤ 22) ⌝ }
     ensures { λ r. ⌜ r ≡ firstOf (drop from (held l)) (held m) ⌝ }
 {
@@ -40,20 +41,20 @@ fn first(l: Listing, from: usize, m: Listing) -> Found
     Found::Nowhere
 }
 
-pub fn verdict(f: Touches, g: Touches) -> Swapping
+pub fn verdict(f: Touches, g: Touches) -> Verdict
     requires { ⌜ (f .list .count ≤ 22) × (g .list .count ≤ 22) ⌝ }
-    ensures { λ x. ⌜ swapAnswer x ≡ swapOutcome 0 (firstIn (drop (f .reads) (held (f .list))) (held (g .list)) 1
-        (firstIn (drop (g .reads) (held (g .list))) (held (f .list)) 2 free)) ⌝ }
+    ensures { λ v. ⌜ told v ≡ firstIn (drop (f .reads) (held (f .list))) (held (g .list)) 1
+        (firstIn (drop (g .reads) (held (g .list))) (held (f .list)) 2 free) ⌝ }
 {
     let l = f.list;
     let m = g.list;
     let x = first(l, f.reads, m);
     if let Found::At(p) = x {
-        return Swapping::Clash(p, 1);
+        return Verdict::Clash(p, 1);
     }
     let y = first(m, g.reads, l);
     if let Found::At(p) = y {
-        return Swapping::Clash(p, 2);
+        return Verdict::Clash(p, 2);
     }
-    Swapping::Free
+    Verdict::Free
 }

@@ -3,84 +3,70 @@ ghost use mathlib.Core.Path.{_≡_};
 ghost use Prim.Native.Nat.{_≤_, _-_};
 ghost use lib.ListN.{length};
 ghost use lib.Seq.{sets};
-ghost use Rattle.words.specs.Bounded.{Bounded};
-ghost use Rattle.words.specs.Meant.{meant, meantD};
-ghost use Rattle.model.specs.State.{pieces};
+ghost use Rattle.words.specs.inner.Meant.{meantD};
+ghost use Rattle.pieces.specs.State.{pieces};
 ghost use Rattle.model.specs.Swap.{swapOf, placesOutcome, placesOf};
-ghost use Rattle.swap.specs.Listing.{held, lent, footprintOf};
-ghost use Rattle.swap.specs.Answers.{swapAnswer, unswapped, listAnswer, unlisted};
+ghost use Rattle.footprint.specs.inner.Numbers.{held};
+ghost use Rattle.swap.specs.Answers.{swapAnswer, listAnswer};
+ghost use Rattle.swap.specs.inner.Calls.{stopped};
+use footprint::Numbers;
+use footprint::Touches;
+use terms::End;
 use words::Decoded;
-use words::Insn;
-use words::Refusal;
 
-mod clash; // clash.rt: the first place of one listing that is in another
-mod list; // list.rt: a listing, and with places of one kind more
-mod results; // results.rt: what each kind of operands writes
-mod sources; // sources.rt: what each kind of operands reads
-mod table; // table.rt: what an instruction reads and what it writes
+mod clash; // clash.rt: the first place of one list that is in another
 
-// The numbers of some places: the first `count` of the array are meant.
-pub struct Listing {
-    pub numbers: [u32; 22],
-    pub count: usize,
-}
-
-// What an instruction touches: the first `reads` of the list are read, the others written.
-pub struct Touches {
-    pub list: Listing,
-    pub reads: usize,
-}
-
-// The first place of one listing that is in another.
-pub enum Found {
+// The first place of one list that is in another.
+enum Found {
     At(u32),
     Nowhere,
 }
 
-// The answer of `may_swap`. A clash: the place, and which of the two writes it.
-pub enum Swapping {
+// A clash: the place, and which of the two writes it.
+pub enum Verdict {
     Free,
     Clash(u32, u32),
-    Lengths,
-    Refused(Refusal),
 }
 
-// The answer of `places`: how many are read, and how many written.
-pub enum Listed {
-    Done(u32, u32),
-    Lengths,
-    Refused(Refusal),
+// The answer of `may_swap`: Free where it is refused.
+pub struct Swap {
+    pub end: End,
+    pub verdict: Verdict,
 }
 
-// What an instruction touches, where the registers that it names are there, as a decoded word's are.
-fn footprint(i: Insn, a: &[u32]) -> Touches
-    requires { ⌜ (length (now a) ≡ 32) × Bounded (meant i) ⌝ }
-    ensures { λ r. ⌜ r ≡ footprintOf (meant i) (lent (now (a .entry))) ⌝ }
+// The answer of `places`: how many are read, and how many written, 0 where it is refused.
+pub struct Listed {
+    pub end: End,
+    pub reads: u32,
+    pub writes: u32,
+}
+
+// Why a word that is no instruction stops a call: `let .. else` cannot bind the refusal.
+fn stopped(d: Decoded) -> End
+    ensures { λ e. ⌜ e ≡ stopped (meantD d) ⌝ }
 {
-    let read = table::reads(list::empty(), i, a);
-    let list = table::writes(read, i, a);
-    Touches {
-        list,
-        reads: read.count,
+    match d {
+        Decoded::Refused(k) => End::Refused(k),
+        Decoded::Insn(_) => End::Done,
     }
 }
 
-// The answer to a word that is no instruction: `let .. else` cannot bind the refusal.
-fn not_swapped(d: Decoded) -> Swapping
-    ensures { λ x. ⌜ x ≡ unswapped (meantD d) ⌝ }
+fn unswapped(end: End) -> Swap
+    ensures { λ x. ⌜ x ≡ record { end = end; verdict = Verdict.Free } ⌝ }
 {
-    match d {
-        Decoded::Refused(k) => Swapping::Refused(k),
-        Decoded::Insn(_) => Swapping::Lengths,
+    Swap {
+        end,
+        verdict: Verdict::Free,
     }
 }
 
-fn not_listed(d: Decoded) -> Listed
-    ensures { λ x. ⌜ x ≡ unlisted (meantD d) ⌝ }
+fn unlisted(end: End) -> Listed
+    ensures { λ x. ⌜ x ≡ record { end = end; reads = 0; writes = 0 } ⌝ }
 {
-    match d {
-        Decoded::Refused(k) => Listed::Refused(k),
-        Decoded::Insn(_) => Listed::Lengths,
+    Listed {
+        end,
+        reads: 0,
+        writes: 0,
     }
 }
 
@@ -97,26 +83,30 @@ pub fn may_swap(
     c: &[u32],
     vc: &[u32],
     v: &[u8],
-) -> Swapping
+) -> Swap
     ensures { λ x. ⌜ swapAnswer x
         ≡ swapOf word1 side1 mask1 word2 side2 mask2 (pieces (ds .entry) (a .entry) (r .entry) (c .entry) (vc .entry) (v .entry)) ⌝ }
 {
-    if !regs::sized(ds.len(), a.len(), r.len(), c.len(), vc.len(), v.len()) {
-        return Swapping::Lengths;
+    if !pieces::sized(ds.len(), a.len(), r.len(), c.len(), vc.len(), v.len()) {
+        return unswapped(End::Lengths);
     }
     let d = words::decode(word1, side1, mask1);
     let Decoded::Insn(i) = d else {
-        return not_swapped(d);
+        return unswapped(stopped(d));
     };
     let e = words::decode(word2, side2, mask2);
     let Decoded::Insn(j) = e else {
-        return not_swapped(e);
+        return unswapped(stopped(e));
     };
-    clash::verdict(footprint(i, a), footprint(j, a))
+    let verdict = clash::verdict(footprint::footprint(i, a), footprint::footprint(j, a));
+    Swap {
+        end: End::Done,
+        verdict,
+    }
 }
 
-// The listing at the start of the buffer.
-fn fill(buffer: &mut [u32], l: Listing)
+// The numbers at the start of the buffer.
+fn fill(buffer: &mut [u32], l: Numbers)
     requires { ⌜ (22 ≤ length (now buffer)) × (l .count ≤ 22) ⌝ }
     ensures { λ _. ⌜ now (buffer .exit) ≡ sets (now (buffer .entry)) 0 (held l) ⌝ }
 {
@@ -127,7 +117,7 @@ fn fill(buffer: &mut [u32], l: Listing)
     }
 }
 
-// The answer of a listing that is done.
+// The answer where all is listed.
 fn report(f: Touches, buffer: &mut [u32]) -> Listed
     requires { ⌜ (22 ≤ length (now buffer)) × (f .list .count ≤ 22) × (f .reads ≤ f .list .count) ⌝ }
     ensures { λ x. ⌜ listAnswer x (now (buffer .exit))
@@ -135,7 +125,11 @@ fn report(f: Touches, buffer: &mut [u32]) -> Listed
 {
     let l = f.list;
     fill(buffer, l);
-    Listed::Done(f.reads as u32, (l.count - f.reads) as u32)
+    Listed {
+        end: End::Done,
+        reads: f.reads as u32,
+        writes: (l.count - f.reads) as u32,
+    }
 }
 
 pub fn places(
@@ -153,15 +147,15 @@ pub fn places(
     ensures { λ x. ⌜ listAnswer x (now (buffer .exit))
         ≡ placesOf word side mask (pieces (ds .entry) (a .entry) (r .entry) (c .entry) (vc .entry) (v .entry)) (now (buffer .entry)) ⌝ }
 {
-    if !regs::sized(ds.len(), a.len(), r.len(), c.len(), vc.len(), v.len()) {
-        return Listed::Lengths;
+    if !pieces::sized(ds.len(), a.len(), r.len(), c.len(), vc.len(), v.len()) {
+        return unlisted(End::Lengths);
     }
     if buffer.len() < 22 {
-        return Listed::Lengths;
+        return unlisted(End::Lengths);
     }
     let d = words::decode(word, side, mask);
     let Decoded::Insn(i) = d else {
-        return not_listed(d);
+        return unlisted(stopped(d));
     };
-    report(footprint(i, a), buffer)
+    report(footprint::footprint(i, a), buffer)
 }

@@ -1,19 +1,20 @@
 // The two units as one, on the six lent pieces: one triple, from its word to what it leaves.
 ghost use mathlib.Core.Path.{_≡_};
-ghost use Rattle.model.specs.State.{pieces, Sized};
+ghost use Rattle.pieces.specs.State.{pieces, Sized};
 ghost use Rattle.model.specs.Step.{tripleOf};
-ghost use Rattle.units.specs.Answers.{answerOutcome, refusedOf};
-use words::Answer;
+ghost use Rattle.units.specs.inner.Answers.{answerOutcome, refusedOf};
+use terms::Answer;
+use terms::Refusal;
 use words::Decoded;
 use words::Insn;
 
-// The answer to a word that is no instruction: `let .. else` cannot bind the refusal.
+// The answer to a word that is no instruction: `let .. else` cannot bind the refusal. An instruction never comes here.
 fn refused(d: Decoded) -> Answer
     ensures { λ x. ⌜ x ≡ refusedOf d ⌝ }
 {
     match d {
         Decoded::Refused(k) => Answer::Refused(k),
-        Decoded::Insn(_) => Answer::Done(0),
+        Decoded::Insn(_) => Answer::Refused(Refusal::Foreign),
     }
 }
 
@@ -63,7 +64,7 @@ pub fn triple(
         Insn::Vor(w) => Answer::Done(vector::vor(w, vc, v)),
         Insn::Mov(w) => Answer::Done(vector::mov(w, vc, v)),
         Insn::MovVc(w) => Answer::Done(vector::mov_vc(w, vc, v)),
-        Insn::Nop => Answer::Done(0),
+        Insn::Nop => Answer::Done(terms::no_counts()),
         Insn::Ldavh(o) => Answer::Done(address::ldavh(o, ds, a, c, v)),
         Insn::Ldavv(o) => Answer::Done(address::ldavv(o, ds, a, c, v)),
         Insn::Ldas(o) => Answer::Done(address::ldas(o, ds, a, c, r)),

@@ -7,7 +7,7 @@ use mathlib.Core.List.{List, [], _∷_}
 use lib.Dec.{ltb}
 use lib.ListN.{set}
 use Rattle.lanes.specs.Lanes.{Lanes}
-use Rattle.regs.specs.Regs.{vregOf, withVreg, flagsAt}
+use Rattle.pieces.specs.inner.Regs.{vregOf, withVreg, flagsAt}
 use Rattle.words.specs.Insn as N
 use Rattle.words.specs.Second.{Second}
 use Rattle.words.specs.Second.{Register, Byte, Absent}
@@ -15,15 +15,18 @@ use Rattle.words.specs.Input.{Input}
 use Rattle.words.specs.Input.{Mask, Signs}
 use Rattle.words.specs.Vector.{Vector}
 use Rattle.words.specs.Vector.{Arith, Shift, Clip, Add9, MinAbs, Bitop, Logic, Cmpad, Swz, Mov, MovImm, MovFlags}
-use Rattle.model.specs.State.{State, state}
-use Rattle.model.specs.Place.{xlat, halves, lo, hi, edit, upd, signs, zeros}
+use Rattle.pieces.specs.State.{State, state}
+use Rattle.terms.specs.declared.Half.the-variants.{Low, High}
+use Rattle.pieces.specs.Place.{xlat, halves, edit, upd, signs, zeros}
 use Rattle.model.specs.Prog.{Did, Done, ret, run, _>>=_, _≔_, puts, done}
 use Rattle.model.specs.Vector.{flagsTo, lanesTo, second, input}
-use Rattle.model.specs.Step.{stepped, entered}
-use Rattle.vector.specs.Effect.{vectors, secondOf, inputOf, lanesAt, vectored}
+use Rattle.terms.specs.Counts.{none}
+use Rattle.model.specs.Step.{stepped, counted}
+use Rattle.ports.specs.inner.Ports.{vectors, secondOf, inputOf, lanesAt}
+use Rattle.vector.specs.inner.Effect.{vectored}
 
 -- two halves put are one word set, two halves read are one word
-halves-put : (n sf zf : ℕ) (l : List ℕ) → upd n (edit halves hi zf) (upd n (edit halves lo sf) l) ≡ set l n (zf * 65536 + sf % 65536)
+halves-put : (n sf zf : ℕ) (l : List ℕ) → upd n (edit halves High zf) (upd n (edit halves Low sf) l) ≡ set l n (zf * 65536 + sf % 65536)
 halves-put n sf zf [] = refl
 halves-put zero sf zf (w ∷ ws) = ap (λ (z : ℕ). z ∷ ws) (omega arith)
 halves-put (suc n) sf zf (w ∷ ws) = ap (λ (z : List ℕ). w ∷ z) (halves-put n sf zf ws)
@@ -78,16 +81,16 @@ closed (Mov o) s = lanes-put _ _ _ s
 closed (MovImm o) s = lanes-put _ _ _ s
 closed (MovFlags dst) s = simp halves-read
 
-pub uncounted : (i : Vector) (s : State) → entered (N.Vector i) s ≡ 0
-unfolding entered
-uncounted (Arith o) s = ap (λ (d : Done). d .counts .accesses) (second-run (o .second) _ s)
-uncounted (Shift o) s = ap (λ (d : Done). d .counts .accesses) (second-run (o .second) _ s)
+pub uncounted : (i : Vector) (s : State) → counted (N.Vector i) s ≡ none
+unfolding counted
+uncounted (Arith o) s = ap (λ (d : Done). d .counts) (second-run (o .second) _ s)
+uncounted (Shift o) s = ap (λ (d : Done). d .counts) (second-run (o .second) _ s)
 uncounted (Clip o) s = refl
 uncounted (Add9 o) s = refl
 uncounted (MinAbs o) s = refl
 uncounted (Bitop o) s = refl
 uncounted (Logic o) s = refl
-uncounted (Cmpad o) s = ap (λ (d : Done). d .counts .accesses) (input-run (o .vcdst) (o .input) _ s)
+uncounted (Cmpad o) s = ap (λ (d : Done). d .counts) (input-run (o .vcdst) (o .input) _ s)
 uncounted (Swz o) s = refl
 uncounted (Mov o) s = refl
 uncounted (MovImm o) s = refl

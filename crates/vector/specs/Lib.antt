@@ -1,2 +1,2 @@
 -- What a vector instruction makes of $vc and $v.
-pub mod Effect
+pub mod inner

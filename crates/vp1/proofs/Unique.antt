@@ -6,7 +6,7 @@ use contract.Lifetimes.{Lfts}
 use denote.Ref.{now}
 use denote.Triple.Clauses.{AtExit}
 use denote.Triple.Entry.{Args}
-use Rattle.model.specs.State.{State, pieces}
+use Rattle.pieces.specs.State.{State, pieces}
 use Rattle.model.specs.Step.{Outcome}
 use Rattle.model.specs.Run.{RunOutcome}
 use Rattle.vp1.proofs.vp1_step as S
@@ -28,7 +28,7 @@ module _ (κs : Lfts 7) (e : AtExit S.ended κs) where
 pub one-step : (κs : Lfts 7) (args : Args S.signature κs) (n m : ℕ) (e f : AtExit S.ended κs) → SR.Post κs args n e → SR.Post κs args m f
     → (n ≡ m) × (cells κs e ≡ cells κs f) × (stepped κs e ≡ stepped κs f)
 one-step κs args n m e f h k =
-    let q = h ∙ sym k in (ap (λ (o : Outcome). o .number) q, ap (λ (o : Outcome). o .accesses) q, ap (λ (o : Outcome). o .after) q)
+    let q = h ∙ sym k in (ap (λ (o : Outcome). o .number) q, ap (λ (o : Outcome). o .counts .accesses) q, ap (λ (o : Outcome). o .after) q)
 
 -- ---- vp1_run: the six pieces, the steps and the accesses at exit, which are its last eight parameters
 
@@ -50,6 +50,6 @@ one-run κs args n m e f h k =
     let q = h ∙ sym k in (
       ap (λ (o : RunOutcome). o .number) q,
       ap (λ (o : RunOutcome). o .steps) q,
-      ap (λ (o : RunOutcome). o .accesses) q,
+      ap (λ (o : RunOutcome). o .counts .accesses) q,
       ap (λ (o : RunOutcome). o .after) q,
     )

@@ -8,9 +8,9 @@ use borrow.Author.Tests.{ltb-true}
 use lib.Dec.{ltb}
 use lib.ListN.{getD, take, drop}
 use Rattle.words.specs.Fields.{fieldsOf}
-use Rattle.words.specs.Bounded.{BoundedA, BoundedV, BoundedD}
+use Rattle.words.specs.inner.Bounded.{BoundedA, BoundedV, BoundedD}
 use Rattle.words.specs.Table.{rows, decodeAt, decodeOf, none}
-use Rattle.words.specs.declared.Refusal.the-variants.{Foreign}
+use Rattle.terms.specs.declared.Refusal.the-variants.{Foreign}
 use Rattle.words.specs.declared.Fields.{Fields}
 use Rattle.words.specs.Decoded.{Decoded}
 use Rattle.words.specs.Decoded as D

@@ -10,7 +10,7 @@ use lib.Dec.{T, ltb, ltb→lt}
 use Rattle.words.specs.declared.Fields.{Fields}
 use Rattle.words.specs.Decoded.{Decoded}
 use Rattle.words.specs.Decoded as D
-use Rattle.words.specs.declared.Refusal.the-variants.{Foreign, Undocumented, SideIndex, SideMask}
+use Rattle.terms.specs.declared.Refusal.the-variants.{Foreign, Undocumented, SideIndex, SideMask}
 use Rattle.words.specs.Table.{decodeAt, rows, none}
 use Rattle.words.proofs.Law.{Rest, keyed, unkeyed, or-right, every, at}
 

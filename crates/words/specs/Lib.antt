@@ -8,5 +8,4 @@ pub mod Insn
 pub mod Decoded
 pub mod Fields
 pub mod Table
-pub mod Bounded
-pub mod Meant
+pub mod inner

@@ -1,10 +1,10 @@
 -- The operands of each kind of instruction, as the model reads them.
 use Prim.Native.Nat.{ℕ}
 use mathlib.Core.Bool.{Bool}
-use Rattle.banks.specs.declared.Way.{Way}
-use Rattle.lanes.specs.declared.Calc.{Calc}
-use Rattle.lanes.specs.declared.Logic.{Logic}
-use Rattle.words.specs.declared.Half.{Half}
+use Rattle.terms.specs.declared.Way.{Way}
+use Rattle.lane.specs.declared.Calc.{Calc}
+use Rattle.lane.specs.declared.Logic.{Logic}
+use Rattle.terms.specs.declared.Half.{Half}
 use Rattle.words.specs.declared.Increment.{Increment}
 use Rattle.words.specs.Second.{Second}
 use Rattle.words.specs.Input.{Input}

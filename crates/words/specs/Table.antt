@@ -4,21 +4,21 @@ use mathlib.Core.Bool.{Bool, true, false, cond}
 use mathlib.Core.List.{List, [], _∷_}
 use lib.Dec.{ltb}
 use lib.ListN.{getD}
-use Rattle.banks.specs.declared.Way.{Way}
-use Rattle.banks.specs.declared.Way.the-variants.{Horizontal, Vertical, Scalar}
-use Rattle.lanes.specs.declared.Calc.{Calc}
-use Rattle.lanes.specs.declared.Calc.the-variants.{Min, Max, Abs, Neg, Add, Sub}
-use Rattle.lanes.specs.declared.Logic.{Logic}
-use Rattle.lanes.specs.declared.Logic.the-variants.{And, Xor, Or}
+use Rattle.terms.specs.declared.Way.{Way}
+use Rattle.terms.specs.declared.Way.the-variants.{Horizontal, Vertical, Scalar}
+use Rattle.lane.specs.declared.Calc.{Calc}
+use Rattle.lane.specs.declared.Calc.the-variants.{Min, Max, Abs, Neg, Add, Sub}
+use Rattle.lane.specs.declared.Logic.{Logic}
+use Rattle.lane.specs.declared.Logic.the-variants.{And, Xor, Or}
 use Rattle.words.specs.Fields.{fieldsOf, secondOf, inputOf}
 use Rattle.words.specs.declared.Fields.{Fields}
-use Rattle.words.specs.declared.Half.{Half}
-use Rattle.words.specs.declared.Half.the-variants.{Low, High}
+use Rattle.terms.specs.declared.Half.{Half}
+use Rattle.terms.specs.declared.Half.the-variants.{Low, High}
 use Rattle.words.specs.declared.Increment.{Increment}
 use Rattle.words.specs.declared.Increment.the-variants as I
 use Rattle.words.specs.Second.{Second}
 use Rattle.words.specs.Second as S
-use Rattle.words.specs.declared.Refusal.the-variants.{Foreign, Undocumented, SideIndex, SideMask}
+use Rattle.terms.specs.declared.Refusal.the-variants.{Foreign, Undocumented, SideIndex, SideMask}
 use Rattle.words.specs.Address.{Address}
 use Rattle.words.specs.Address as A
 use Rattle.words.specs.Vector.{Vector}

@@ -3,26 +3,8 @@ ghost use mathlib.Core.Path.{_≡_};
 ghost use Prim.Native.Nat.{_<_};
 ghost use Rattle.words.specs.Fields.{immOf, fieldsOf};
 ghost use Rattle.words.specs.Table.{decodeOf};
-ghost use Rattle.words.specs.Meant.{byByte, moving, meantD, sidedBy, maskedBy};
-
-// Why a triple is refused: document 01's numbers 1 to 4, in this order.
-pub enum Refusal {
-    Foreign,
-    Undocumented,
-    SideIndex,
-    SideMask,
-}
-
-// One triple's answer, on pieces of right lengths: the cells entered, or why it was refused.
-pub enum Answer {
-    Done(u64),
-    Refused(Refusal),
-}
-
-pub enum Half {
-    Low,
-    High,
-}
+ghost use Rattle.words.specs.inner.Meant.{byByte, moving, meantD, sidedBy, maskedBy};
+use terms::Refusal;
 
 // What an address is moved on by after the access.
 pub enum Increment {

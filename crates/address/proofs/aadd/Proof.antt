@@ -1,14 +1,13 @@
 -- `address::aadd` meets its contract.
 use mathlib.Core.Path.{refl}
-use Rattle.address.specs.Effect.{addressed, cellsIn}
-use Rattle.address.specs.Result.{resultOf}
-use Rattle.regs.specs.Regs.{baseOf}
+use Rattle.address.specs.inner.Effect.{resultOf, addressed, countsIn}
+use Rattle.pieces.specs.inner.Regs.{baseOf}
 use borrow.Author.Needs.{needs}
 use Rattle.address.proofs.aadd.Statement.{statement}
 use Rattle.address.proofs.aadd.Tie as tie
 
 pub aadd-spec : {M : Type 1} → statement M
-unfolding resultOf addressed cellsIn baseOf
+unfolding resultOf addressed countsIn baseOf
 aadd-spec =
     tie.close
     (tie.spec
@@ -17,4 +16,5 @@ aadd-spec =
     (λ c κs. search needs)
     (λ c. search needs)
     (λ c. search needs)
-    (λ c. rw (c .before .before .before .before .advance .ensures .0, c .before .before .before .before .advance .ensures .1, c .before .before .before .before .before .before .before .base-at .ensures .0, c .before .before .before .before .before .before .before .before .before .cut .ensures .0) refl))
+    (λ c. search needs)
+    (λ c. rw (c .no-counts .ensures, c .before .before .before .before .before .advance .ensures .0, c .before .before .before .before .before .advance .ensures .1, c .before .before .before .before .before .before .before .before .base-at .ensures .0, c .before .before .before .before .before .before .before .before .before .before .cut .ensures .0) refl))

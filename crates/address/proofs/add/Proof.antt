@@ -1,12 +1,11 @@
 -- `address::add` meets its contract.
-use Rattle.address.specs.Effect.{addressed, cellsIn}
-use Rattle.address.specs.Result.{resultOf}
+use Rattle.address.specs.inner.Effect.{resultOf, addressed, countsIn}
 use borrow.Author.Needs.{needs}
 use Rattle.address.proofs.add.Statement.{statement}
 use Rattle.address.proofs.add.Tie as tie
 
 pub add-spec : {M : Type 1} → statement M
-unfolding resultOf addressed cellsIn
+unfolding resultOf addressed countsIn
 add-spec =
     tie.close
     (tie.spec
@@ -21,4 +20,5 @@ add-spec =
     (λ c κs. search needs)
     (λ c. search needs)
     (λ c. search needs)
-    (λ c. cc))
+    (λ c. search needs)
+    (λ c. rw (c .no-counts .ensures) cc))

@@ -1,7 +1,7 @@
 -- `address::base_at` meets its contract.
 use Prim.Native.Nat.{_/_}
-use Rattle.regs.specs.Regs.{baseOf}
-use Rattle.regs.specs.declared.Base.{Base}
+use Rattle.pieces.specs.inner.Regs.{baseOf}
+use Rattle.pieces.specs.declared.Base.{Base}
 use borrow.Author.Needs.{needs}
 use lib.ListN.{getD}
 use mathlib.Core.Path.{_≡_, ap}

@@ -1,12 +1,11 @@
 -- `address::bitop` meets its contract.
-use Rattle.address.specs.Effect.{addressed, cellsIn}
-use Rattle.address.specs.Result.{resultOf}
+use Rattle.address.specs.inner.Effect.{resultOf, addressed, countsIn}
 use borrow.Author.Needs.{needs}
 use Rattle.address.proofs.bitop.Statement.{statement}
 use Rattle.address.proofs.bitop.Tie as tie
 
 pub bitop-spec : {M : Type 1} → statement M
-unfolding resultOf addressed cellsIn
+unfolding resultOf addressed countsIn
 bitop-spec =
     tie.close
     (tie.spec
@@ -21,4 +20,5 @@ bitop-spec =
     (λ c κs. search needs)
     (λ c. search needs)
     (λ c. search needs)
-    (λ c. cc))
+    (λ c. search needs)
+    (λ c. rw (c .no-counts .ensures) cc))

@@ -2,7 +2,7 @@
 use mathlib.Core.Path.{_≡_, ap, _∙_}
 use native.Mathlib.Omega.{arith}
 use lib.ListN.{length}
-use Rattle.regs.specs.Regs.{withVreg}
+use Rattle.pieces.specs.inner.Regs.{withVreg}
 use Rattle.address.proofs.Columns.{pasted}
 use borrow.Author.Needs.{needs}
 use Rattle.address.proofs.column_in.Statement.{statement}

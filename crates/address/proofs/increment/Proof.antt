@@ -1,6 +1,6 @@
 -- `address::increment` meets its contract.
-use Rattle.address.specs.Effect.{incOf}
-use Rattle.regs.specs.Regs.{baseOf}
+use Rattle.address.specs.inner.Effect.{incOf}
+use Rattle.pieces.specs.inner.Regs.{baseOf}
 use borrow.Author.Needs.{needs}
 use mir.Facts.{toZ-ofZ}
 use mir.Syntax.{w32}

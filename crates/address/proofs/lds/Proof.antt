@@ -1,13 +1,12 @@
 -- `address::lds` meets its contract.
 use mathlib.Core.Path.{refl}
-use Rattle.address.specs.Effect.{addressed, cellsIn, fetched, kept, intoR, intoV, outOf}
-use Rattle.address.specs.Result.{resultOf}
+use Rattle.address.specs.inner.Effect.{resultOf, addressed, countsIn, fetched, kept, intoR, intoV, outOf}
 use borrow.Author.Needs.{needs}
 use Rattle.address.proofs.lds.Statement.{statement}
 use Rattle.address.proofs.lds.Tie as tie
 
 pub lds-spec : {M : Type 1} → statement M
-unfolding resultOf addressed cellsIn fetched kept intoR intoV outOf
+unfolding resultOf addressed countsIn fetched kept intoR intoV outOf
 lds-spec =
     tie.close
     (tie.spec
@@ -22,4 +21,4 @@ lds-spec =
     (λ c κs. search needs)
     (λ c. search needs)
     (λ c. search needs)
-    (λ c. rw (c .cells .ensures, c .before .before .before .mark-end .ensures, c .before .before .before .before .before .load-word .ensures, c .before .before .before .before .before .before .joined .ensures, c .before .before .before .before .before .before .before .base-at .ensures .0, c .before .before .before .before .before .before .before .before .cut .ensures .0) refl))
+    (λ c. rw (c .entered .ensures, c .before .before .before .mark-end .ensures, c .before .before .before .before .before .load-word .ensures, c .before .before .before .before .before .before .joined .ensures, c .before .before .before .before .before .before .before .base-at .ensures .0, c .before .before .before .before .before .before .before .before .cut .ensures .0) refl))

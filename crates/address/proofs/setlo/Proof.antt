@@ -1,12 +1,11 @@
 -- `address::setlo` meets its contract.
-use Rattle.address.specs.Effect.{addressed, cellsIn}
-use Rattle.address.specs.Result.{resultOf}
+use Rattle.address.specs.inner.Effect.{resultOf, addressed, countsIn}
 use borrow.Author.Needs.{needs}
 use Rattle.address.proofs.setlo.Statement.{statement}
 use Rattle.address.proofs.setlo.Tie as tie
 
 pub setlo-spec : {M : Type 1} → statement M
-unfolding resultOf addressed cellsIn
+unfolding resultOf addressed countsIn
 setlo-spec =
     tie.close
     (tie.spec
@@ -17,4 +16,5 @@ setlo-spec =
     (λ c. search needs)
     (λ c. search needs)
     (λ c. search needs)
-    (λ c. cc))
+    (λ c. search needs)
+    (λ c. rw (c .no-counts .ensures) cc))

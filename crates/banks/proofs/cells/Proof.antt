@@ -1,6 +1,6 @@
 -- The number of cells by way and code is the definition's.
 use borrow.Author.Needs.{needs}
-use Rattle.banks.specs.Line.{cellsOf}
+use Rattle.banks.specs.inner.Access.{cellsOf}
 use Rattle.banks.proofs.Masks.{column-cells}
 use Rattle.banks.proofs.cells.Statement.{statement}
 use Rattle.banks.proofs.cells.Tie as tie

@@ -4,7 +4,7 @@ use native.Mathlib.Omega.{arith}
 use mathlib.Core.Path.{_≡_}
 use borrow.Author.Needs.{needs}
 use Rattle.banks.specs.Line.{startOf, stepOf}
-use Rattle.banks.specs.declared.Way.the-variants.{Vertical}
+use Rattle.terms.specs.declared.Way.the-variants.{Vertical}
 use Rattle.banks.proofs.Places.{way-lt}
 use Rattle.lab.proofs.bank_at.Statement.{statement}
 use Rattle.lab.proofs.bank_at.Tie as tie

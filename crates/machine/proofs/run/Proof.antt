@@ -1,9 +1,11 @@
 -- `machine::run` meets its contract: the lengths are tested, and `turns` does the rest.
-use mathlib.Core.Path.{ap, _∙_}
+use mathlib.Core.Path.{ap, ap₂, _∙_}
 use borrow.Author.Needs.{needs}
-use Rattle.model.specs.State.{State, state}
-use Rattle.machine.specs.Answers.{runOutcome, ranOf}
-use Rattle.machine.specs.declared.End.{End}
+use Rattle.pieces.specs.State.{State, state}
+use Rattle.terms.specs.declared.Counts.{Counts}
+use Rattle.terms.specs.declared.End.{End}
+use Rattle.machine.specs.Answers.{runOutcome}
+use Rattle.machine.specs.inner.Turns.{ranOf}
 use Rattle.machine.specs.declared.Ran.{Ran}
 use Rattle.machine.proofs.Turn.{fit, unfit}
 use Rattle.machine.proofs.run.Statement.{statement}
@@ -30,10 +32,10 @@ returns c =
 
 returns-2 : tie.Need-returns-2
 returns-2 c =
-    let q = c .before .before .before in
+    let q = c .before .before .before .before in
     let s = first q in
-    ap (λ (r : Ran). runOutcome r (from s)) (c .report .ensures ∙ ap (λ (e : End). ranOf e 0 0) (c .before .unfit .ensures))
-    ∙ unfit (s .args .budget) (s .args .words .now) (from s) _ (q .sized .ensures) (c .before .before .if1 .left)
+    ap (λ (r : Ran). runOutcome r (from s)) (c .report .ensures ∙ ap₂ (λ (e : End) (k : Counts). ranOf e 0 k) (c .before .before .unfit .ensures) (c .before .no-counts .ensures))
+    ∙ unfit (s .args .budget) (s .args .words .now) (from s) _ (q .sized .ensures) (c .before .before .before .if1 .left)
 
 pub run-spec : {M : Type 1} → statement M
 run-spec =
@@ -48,6 +50,7 @@ run-spec =
     (λ c. search needs)
     (λ c. search needs)
     returns
+    (λ c κs. search needs)
     (λ c κs. search needs)
     (λ c κs. search needs)
     returns-2)

@@ -6,47 +6,53 @@ use native.Mathlib.Omega.{arith}
 use native.Mathlib.Nat.{le-trans}
 use borrow.Author.Needs.{needs}
 use lib.ListN.{length, drop, getD}
-use Rattle.words.specs.declared.Refusal.{Refusal}
-use Rattle.model.specs.State.{State, state, Sized}
-use Rattle.model.specs.Run.{RunOutcome, ended, runFrom}
-use Rattle.machine.specs.Answers.{endNumber, toEnd, runOutcome, coveredBy}
-use Rattle.words.specs.declared.Answer.the-variants as A
-use Rattle.machine.specs.declared.End.{End}
+use Rattle.terms.specs.Answers.{number}
+use Rattle.terms.specs.inner.Runs.{endOf, most}
+use Rattle.terms.specs.Counts.{none, plus, Within}
+use Rattle.terms.specs.declared.Counts.{Counts}
+use Rattle.terms.specs.declared.Refusal.{Refusal}
+use Rattle.terms.proofs.Sums.{within-none, within-plus, within-le}
+use Rattle.pieces.specs.State.{State, state, Sized}
+use Rattle.model.specs.Run.{RunOutcome, triples, ended, runFrom}
+use Rattle.machine.specs.Answers.{runOutcome}
+use Rattle.machine.specs.inner.Turns.{coveredBy}
+use Rattle.terms.specs.declared.Answer.the-variants as A
+use Rattle.terms.specs.declared.End.{End}
 use Rattle.machine.specs.declared.Ran.{Ran}
 use Rattle.machine.proofs.Turn.{covered-le, inside, outside, turn, halt, cheap}
 use Rattle.machine.proofs.turns.Statement.{statement}
 use Rattle.machine.proofs.turns.Tie as tie
 
-record Turned (ws : List ℕ) (b end : ℕ) (s₀ s : State) (k i : ℕ) : Type 0 where
+record Turned (ws : List ℕ) (b end : ℕ) (s₀ s : State) (k : Counts) (i : ℕ) : Type 0 where
   till : end ≡ coveredBy (length ws) b
   at : i ≡ i / 3 * 3
   within : i ≤ end
-  counted : k ≤ i / 3 * 16
+  counted : Within (i / 3) k
   ds : length (s .ds) ≡ length (s₀ .ds)
   a : length (s .a) ≡ length (s₀ .a)
   r : length (s .r) ≡ length (s₀ .r)
   c : length (s .c) ≡ length (s₀ .c)
   vc : length (s .vc) ≡ length (s₀ .vc)
   v : length (s .v) ≡ length (s₀ .v)
-  same : runFrom b (drop i ws) (i / 3) k s ≡ runFrom b ws 0 0 s₀
+  same : runFrom b (triples (drop i ws)) (i / 3) k s ≡ runFrom b (triples ws) 0 none s₀
 
 abbrev Inv-loop : tie.InvT-loop
-Inv-loop words budget ds₀ a₀ r₀ c₀ vc₀ v₀ end accesses₀ i₀ ds a r c vc v accesses i =
-    Turned words budget end (state ds₀ a₀ r₀ c₀ vc₀ v₀) (state ds a r c vc v) accesses i
+Inv-loop words budget ds₀ a₀ r₀ c₀ vc₀ v₀ end counts₀ i₀ ds a r c vc v counts i =
+    Turned words budget end (state ds₀ a₀ r₀ c₀ vc₀ v₀) (state ds a r c vc v) counts i
 
 abbrev μ-loop : tie.MeasureT-loop
-μ-loop words budget ds₀ a₀ r₀ c₀ vc₀ v₀ end accesses₀ i₀ ds a r c vc v accesses i = end - i
+μ-loop words budget ds₀ a₀ r₀ c₀ vc₀ v₀ end counts₀ i₀ ds a r c vc v counts i = end - i
 
 abbrev from : tie.Start Inv-loop μ-loop → State
 from s = state (s .args .ds .now) (s .args .a .now) (s .args .r .now) (s .args .c .now) (s .args .vc .now) (s .args .v .now)
 
 -- where the loop begins
-module _ (q : tie.After-covered Inv-loop μ-loop) where
+module _ (q : tie.After-no-counts Inv-loop μ-loop) where
   abbrev start : tie.Start Inv-loop μ-loop
-  start = q .before .before .before .before .before .before .before .before
+  start = q .before .before .before .before .before .before .before .before .before
 
   abbrev whole : RunOutcome
-  whole = runFrom (start .args .budget) (start .args .words .now) 0 0 (from start)
+  whole = runFrom (start .args .budget) (triples (start .args .words .now)) 0 none (from start)
 
 -- in a turn: a whole triple is left, and the budget is not spent
 module _ (p : tie.In-loop Inv-loop μ-loop) where
@@ -89,19 +95,19 @@ module _ (p : tie.After-triple Inv-loop μ-loop) where
   unspent : n t ≡ z .args .budget → ⊥
   unspent e = let h = here t .1 in let b : ⊥ = omega arith in b
 
-  small : (m : ℕ) → p .triple .result ≡ A.Done m → m ≤ 16
+  small : (m : Counts) → p .triple .result ≡ A.Done m → Within 1 m
   small m d =
       let i = t .before .loop .i in
       cheap (p .triple .result) after (getD words i 0) (getD words (i + 1) 0) (getD words (i + 2) 0) (l t) (p .triple .ensures) m d
 
-  on : (m : ℕ) → p .triple .result ≡ A.Done m → runFrom (z .args .budget) (drop (t .before .loop .i + 3) words) (n t + 1) (t .before .loop .accesses + m) after ≡ runFrom (z .args .budget) words 0 0 (from z)
+  on : (m : Counts) → p .triple .result ≡ A.Done m → runFrom (z .args .budget) (triples (drop (t .before .loop .i + 3) words)) (n t + 1) (plus (t .before .loop .counts) m) after ≡ runFrom (z .args .budget) (triples words) 0 none (from z)
   on m d =
-      sym (turn (z .args .budget) words (t .before .loop .i) (n t) (t .before .loop .accesses) (l t) (here t .0) (p .triple .result) after (p .triple .ensures) unspent m d)
+      sym (turn (z .args .budget) words (t .before .loop .i) (n t) (t .before .loop .counts) (l t) (here t .0) (p .triple .result) after (p .triple .ensures) unspent m d)
       ∙ t .before .loop .inv .same
 
-  off : (j : Refusal) → p .triple .result ≡ A.Refused j → ended (endNumber (toEnd (p .triple .result))) (n t) (t .before .loop .accesses) after ≡ whole (t .before .before)
+  off : (j : Refusal) → p .triple .result ≡ A.Refused j → ended (number (endOf (p .triple .result))) (n t) (t .before .loop .counts) after ≡ whole (t .before .before)
   off j d =
-      sym (halt (z .args .budget) words (t .before .loop .i) (n t) (t .before .loop .accesses) (l t) (here t .0) (p .triple .result) after (p .triple .ensures) unspent j d)
+      sym (halt (z .args .budget) words (t .before .loop .i) (n t) (t .before .loop .counts) (l t) (here t .0) (p .triple .result) after (p .triple .ensures) unspent j d)
       ∙ t .before .loop .inv .same
 
 -- an answer that is equal to one that was shown right
@@ -110,17 +116,17 @@ said s e f = ap (λ (r : Ran). runOutcome r s) e ∙ f
 
 loop-holds : tie.Need-loop-holds Inv-loop μ-loop
 loop-holds c = record {
-  till = c .covered .ensures;
+  till = c .before .covered .ensures;
   at = refl;
   within = zero-le;
-  counted = zero-le;
+  counted = rw (c .no-counts .ensures) (within-none 0);
   ds = refl;
   a = refl;
   r = refl;
   c = refl;
   vc = refl;
   v = refl;
-  same = refl;
+  same = rw (c .no-counts .ensures) refl;
 }
 
 triple-requires : tie.Need-triple-requires Inv-loop μ-loop
@@ -131,7 +137,7 @@ returns c =
     let d = c .before in
     let p = d .before .before .before .before .before .before .before .before .before .before .before .before .before .before .before in
     said (after p) (c .report .ensures)
-    (ap (λ (x : End). ended (endNumber x) (n (t p)) (t p .before .loop .accesses) (after p)) (d .to-end .ensures)
+    (ap (λ (x : End). ended (number x) (n (t p)) (t p .before .loop .counts) (after p)) (d .end-of .ensures)
     ∙ off p (d .before .enum-told .given .0 .0) (d .before .enum-told .given .1))
 
 -- after a triple that was done
@@ -139,11 +145,26 @@ module _ (c : tie.After-known-told Inv-loop μ-loop) where
   abbrev p : tie.After-triple Inv-loop μ-loop
   p = c .before .before .before .before .before .before .before .before .before .before .before .before .before .before .before
 
-  cost : c .before .x .given .0 .0 ≤ 16
-  cost = small p (c .before .x .given .0 .0) (c .before .x .given .1)
+  -- the counts of the turns before, and of this one
+  abbrev sofar : Counts
+  sofar = t p .before .loop .counts
+
+  abbrev more : Counts
+  more = c .before .x .given .0 .0
+
+  cost : Within 1 more
+  cost = small p more (c .before .x .given .1)
+
+  together : Within (n (t p) + 1) (plus sofar more)
+  together = within-plus (n (t p)) 1 sofar more (t p .before .loop .inv .counted) cost
+
+sum-requires : tie.Need-sum-requires Inv-loop μ-loop
+sum-requires c κs =
+    within-le (n (t (p c)) + 1) most (plus (sofar c) (more c)) (omega (arith, here (t (p c)) .1, z (p c) .fits .budget)) (together c)
 
 loop-again : tie.Need-loop-again Inv-loop μ-loop
-loop-again c =
+loop-again d =
+    let c = d .before in
     let q = t (p c) .before .loop .inv in
     let h = here (t (p c)) in
     let k = p c .triple .kept .1 .1 .1 in
@@ -153,14 +174,14 @@ loop-again c =
       till = q .till;
       at = omega (arith, q .at);
       within = rw (q .till) (h .2);
-      counted = rw next (omega (arith, q .counted, cost c));
+      counted = rw (next, d .sum .ensures) (together c);
       ds = k .0 ∙ q .ds;
       a = k .1 .0 ∙ q .a;
       r = k .1 .1 .0 ∙ q .r;
       c = k .1 .1 .1 .0 ∙ q .c;
       vc = k .1 .1 .1 .1 .0 ∙ q .vc;
       v = k .1 .1 .1 .1 .1 .0 ∙ q .v;
-      same = rw next (on (p c) (c .before .x .given .0 .0) (c .before .x .given .1));
+      same = rw (next, d .sum .ensures) (on (p c) (c .before .x .given .0 .0) (c .before .x .given .1));
     }
 
 -- after the last turn: as far as the budget covers the list
@@ -173,8 +194,8 @@ returns-2 c =
     let now : State = state (h .loop .ds) (h .loop .a) (h .loop .r) (h .loop .c) (h .loop .vc) (h .loop .v) in
     let e : h .loop .i ≡ coveredBy (length (s .args .words .now)) (s .args .budget) = omega (arith, q .within, d .before .loop-test .left) ∙ q .till in
     said now (c .report2 .ensures)
-    (ap (λ (x : End). ended (endNumber x) (h .loop .i / 3) (h .loop .accesses) now) (d .ending .ensures)
-    ∙ outside (s .args .words .now) (s .args .budget) (h .loop .i) (h .loop .i / 3) (q .at) (h .loop .accesses) now (s .pre .1) e
+    (ap (λ (x : End). ended (number x) (h .loop .i / 3) (h .loop .counts) now) (d .ending .ensures)
+    ∙ outside (s .args .words .now) (s .args .budget) (h .loop .i) (h .loop .i / 3) (q .at) (h .loop .counts) now (s .pre .1) e
     ∙ q .same)
 
 pub turns-spec : {M : Type 1} → statement M
@@ -183,6 +204,7 @@ turns-spec =
     (tie.spec
     Inv-loop
     μ-loop
+    (λ c κs. tt)
     (λ c κs. tt)
     loop-holds
     (λ c. omega (arith, here c .0))
@@ -206,9 +228,9 @@ turns-spec =
     (λ c. search needs)
     (λ c. search needs)
     returns
-    (λ c. omega (arith, cost c, t (p c) .before .loop .inv .counted, here (t (p c)) .1, z (p c) .fits .budget))
-    (λ c. omega (arith, here (t (p c)) .0))
-    (λ c. let h = here (t (p c)) .2 in let e = t (p c) .before .loop .inv .till in let l = t (p c) .loop-test .taken in omega (arith, l))
+    sum-requires
+    (λ c. omega (arith, here (t (p (c .before))) .0))
+    (λ c. let h = here (t (p (c .before))) .2 in let e = t (p (c .before)) .before .loop .inv .till in let l = t (p (c .before)) .loop-test .taken in omega (arith, l))
     loop-again
     (λ c κs. tt)
     (λ c.

@@ -2,7 +2,7 @@
 use native.Mathlib.Omega.{arith}
 use borrow.Author.Needs.{needs}
 use Prim.Native.Nat.{_-_, _≤_}
-use Rattle.store.specs.Steps.{inBank}
+use Rattle.store.specs.inner.Steps.{inBank}
 use Rattle.store.proofs.Loops.{Twice, twice-none, twice-more, twice-all}
 use Rattle.store.proofs.Rows.{in-bank, in-bank-again}
 use Rattle.store.proofs.banked.Statement.{statement}

@@ -3,7 +3,7 @@ use native.Mathlib.Omega.{arith}
 use borrow.Author.Needs.{needs}
 use Prim.Native.Nat.{_-_, _≤_, _<_}
 use mathlib.Core.Path.{_≡_}
-use Rattle.store.specs.Steps.{stepped}
+use Rattle.store.specs.inner.Steps.{stepped}
 use Rattle.store.proofs.Loops.{Filled, filled-none, filled-more, filled-all}
 use Rattle.store.proofs.Steps.{stepped-none, stepped-more}
 use Rattle.store.proofs.gather.Statement.{statement}

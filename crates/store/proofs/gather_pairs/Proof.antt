@@ -4,7 +4,7 @@ use borrow.Author.Needs.{needs}
 use Prim.Native.Nat.{ℕ, _+_, _*_, _-_, _≤_, _<_}
 use mathlib.Core.Path.{_≡_, ap, _∙_}
 use lib.ListN.{length-set}
-use Rattle.store.specs.Steps.{stepped, paired}
+use Rattle.store.specs.inner.Steps.{stepped, paired}
 use Rattle.store.proofs.Loops.{Filled, filled-none, filled-two, filled-all}
 use Rattle.store.proofs.Steps.{stepped-none, stepped-more, paired-low, paired-high, high-lt}
 use Rattle.store.proofs.gather_pairs.Statement.{statement}

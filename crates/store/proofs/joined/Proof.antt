@@ -1,7 +1,7 @@
 -- The four bytes, weighted, are the word of the list of them.
 use native.Mathlib.Omega.{arith}
 use borrow.Author.Needs.{needs}
-use Rattle.store.specs.Store.{wordOf}
+use Rattle.store.specs.inner.Loads.{wordOf}
 use Rattle.store.proofs.joined.Statement.{statement}
 use Rattle.store.proofs.joined.Tie as tie
 

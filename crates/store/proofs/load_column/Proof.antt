@@ -1,7 +1,7 @@
 -- The steps are the column's places.
 use mathlib.Core.Path.{ap, _∙_}
 use borrow.Author.Needs.{needs}
-use Rattle.store.specs.Store.{loaded}
+use Rattle.store.specs.inner.Loads.{loaded}
 use Rattle.store.proofs.Access.{column-places, paired-places, paired-even}
 use Rattle.store.proofs.load_column.Statement.{statement}
 use Rattle.store.proofs.load_column.Tie as tie

@@ -4,7 +4,7 @@ use mathlib.Core.Path.{refl}
 use borrow.Author.Needs.{needs}
 use Rattle.banks.proofs.OneToOne.{bank-lt}
 use Rattle.store.proofs.Access.{start-lt, row-loaded}
-use Rattle.banks.specs.declared.Way.the-variants.{Horizontal}
+use Rattle.terms.specs.declared.Way.the-variants.{Horizontal}
 use Rattle.store.proofs.load_row.Statement.{statement}
 use Rattle.store.proofs.load_row.Tie as tie
 

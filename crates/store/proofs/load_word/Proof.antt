@@ -3,7 +3,7 @@ use mathlib.Core.Path.{ap, _∙_}
 use mathlib.Core.List.{List}
 use Prim.Native.Nat.{ℕ}
 use borrow.Author.Needs.{needs}
-use Rattle.store.specs.Store.{loaded, wordOf}
+use Rattle.store.specs.inner.Loads.{loaded, wordOf}
 use Rattle.store.proofs.Access.{word-places}
 use Rattle.store.proofs.load_word.Statement.{statement}
 use Rattle.store.proofs.load_word.Tie as tie

@@ -3,7 +3,7 @@ use native.Mathlib.Omega.{arith}
 use borrow.Author.Needs.{needs}
 use Prim.Native.Nat.{ℕ, _+_, _*_, _-_, _≤_, _<_}
 use mathlib.Core.Path.{_≡_, refl, ap, _∙_}
-use Rattle.store.specs.Steps.{stepped, paired}
+use Rattle.store.specs.inner.Steps.{stepped, paired}
 use Rattle.store.proofs.Loops.{Left, left-all, left-two, left-none}
 use Rattle.store.proofs.Steps.{stepped-none, stepped-more, paired-low, paired-high, high-lt}
 use Rattle.store.proofs.scatter_pairs.Statement.{statement}

@@ -3,7 +3,7 @@ use native.Mathlib.Omega.{arith}
 use borrow.Author.Needs.{needs}
 use Rattle.banks.proofs.OneToOne.{bank-lt}
 use Rattle.store.proofs.Access.{start-lt, row-stored}
-use Rattle.banks.specs.declared.Way.the-variants.{Horizontal}
+use Rattle.terms.specs.declared.Way.the-variants.{Horizontal}
 use Rattle.store.proofs.store_row.Statement.{statement}
 use Rattle.store.proofs.store_row.Tie as tie
 

@@ -5,7 +5,7 @@ use Prim.Native.Nat.{ℕ}
 use native.Mathlib.Omega.{arith}
 use borrow.Author.Needs.{needs}
 use lib.ListN.{length-set}
-use Rattle.store.specs.Store.{stored, bytesOf}
+use Rattle.store.specs.inner.Loads.{stored, bytesOf}
 use Rattle.store.proofs.Access.{word-places}
 use Rattle.store.proofs.store_word.Statement.{statement}
 use Rattle.store.proofs.store_word.Tie as tie

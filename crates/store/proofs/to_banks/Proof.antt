@@ -5,7 +5,7 @@ use Prim.Native.Nat.{_-_, _≤_}
 use mathlib.Core.Path.{sym}
 use lib.ListN.{drop}
 use lib.Seq.{getD-drop}
-use Rattle.store.specs.Steps.{inBank}
+use Rattle.store.specs.inner.Steps.{inBank}
 use Rattle.store.proofs.Loops.{Left, left-all, left-less, left-none}
 use Rattle.store.proofs.Rows.{in-bank}
 use Rattle.store.proofs.to_banks.Statement.{statement}

@@ -1,12 +1,12 @@
 -- `swap::may_swap` meets its contract: each return knows what was tested before it.
 use mathlib.Core.Path.{_≡_, sym, ap, _∙_}
-use mathlib.Core.Bool.{true}
+use mathlib.Core.Bool.{true, false}
 use borrow.Author.Needs.{needs}
 use borrow.Author.Tests.{not-true, not-false}
 use lib.ListN.{length}
-use Rattle.words.specs.Meant.{meant, meantD}
-use Rattle.model.specs.State.{State, state, sizedOf}
-use Rattle.model.proofs.Refused.{sized-if}
+use Rattle.words.specs.inner.Meant.{meant, meantD}
+use Rattle.pieces.specs.State.{State, state, sizedOf}
+use Rattle.pieces.proofs.Right.{sized-if}
 use Rattle.swap.proofs.Calls.{named, small, unfit, first-refused, second-refused, swapping}
 use Rattle.swap.proofs.may_swap.Statement.{statement}
 use Rattle.swap.proofs.may_swap.Tie as tie
@@ -17,11 +17,14 @@ from s = state (s .args .ds .now) (s .args .a .now) (s .args .r .now) (s .args .
 abbrev start : tie.After-sized → tie.Start
 start p = p .before .before .before .before .before .before .before
 
+ill : (p : tie.Then1) → sizedOf (from (start (p .before))) ≡ false
+ill p = sym (p .before .sized .ensures) ∙ not-true _ (p .if1 .taken)
+
 returns : tie.Need-returns
 returns c =
-    let s = start (c .before) in
+    let s = start (c .before .before) in
     let a = s .args in
-    unfit (a .word1) (a .side1) (a .mask1) (a .word2) (a .side2) (a .mask2) (from s) (sym (c .before .sized .ensures) ∙ not-true _ (c .if1 .taken))
+    unfit (a .word1) (a .side1) (a .mask1) (a .word2) (a .side2) (a .mask2) (from s) (c .unswapped .ensures) (ill (c .before))
 
 -- after the first word is decoded
 module _ (p : tie.After-decode) where
@@ -36,11 +39,12 @@ module _ (p : tie.After-decode) where
 
 returns-2 : tie.Need-returns-2
 returns-2 c =
-    let p = c .before .before .before in
+    let z = c .before in
+    let p = z .before .before .before in
     let s = first-start p in
     let a = s .args in
     first-refused (a .word1) (a .side1) (a .mask1) (a .word2) (a .side2) (a .mask2) (from s) (well p) (p .decode .ensures)
-    (ap meantD (c .before .enum-told .given .1)) (c .not-swapped .ensures)
+    (ap meantD (z .before .enum-told .given .1)) (z .stopped .ensures) (c .unswapped2 .ensures)
 
 -- after the second
 abbrev first : tie.After-decode2 → tie.After-decode
@@ -48,12 +52,13 @@ first q = q .before .before .before .before
 
 returns-3 : tie.Need-returns-3
 returns-3 c =
-    let q = c .before .before .before in
+    let z = c .before in
+    let q = z .before .before .before in
     let p = first q in
     let s = first-start p in
     let a = s .args in
     second-refused (a .word1) (a .side1) (a .mask1) (a .word2) (a .side2) (a .mask2) (from s) (well p) (p .decode .ensures)
-    (ap meantD (q .before .before .d .given .1)) (q .decode2 .ensures) (ap meantD (c .before .enum-told2 .given .1)) (c .not-swapped2 .ensures)
+    (ap meantD (q .before .before .d .given .1)) (q .decode2 .ensures) (ap meantD (z .before .enum-told2 .given .1)) (z .stopped2 .ensures) (c .unswapped3 .ensures)
 
 footprint-requires : tie.Need-footprint-requires
 footprint-requires c κs =
@@ -92,15 +97,18 @@ may-swap-spec =
     tie.close
     (tie.spec
     (λ c κs. tt)
+    (λ c κs. tt)
     returns
     (λ c κs. tt)
     (λ c. search needs)
     (λ c. search needs)
     (λ c κs. tt)
+    (λ c κs. tt)
     returns-2
     (λ c κs. tt)
     (λ c. search needs)
     (λ c. search needs)
+    (λ c κs. tt)
     (λ c κs. tt)
     returns-3
     footprint-requires

@@ -1,8 +1,8 @@
 -- `vector::compared` meets its contract.
 use mathlib.Core.Path.{refl}
 use borrow.Author.Tests.{le-ltb}
-use Rattle.regs.specs.Regs.{flagsAt}
-use Rattle.vector.specs.Effect.{vectored}
+use Rattle.pieces.specs.inner.Regs.{flagsAt}
+use Rattle.vector.specs.inner.Effect.{vectored}
 use Rattle.vector.proofs.Pair.{pair}
 use borrow.Author.Needs.{needs}
 use Rattle.vector.proofs.compared.Statement.{statement}

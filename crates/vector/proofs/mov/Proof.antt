@@ -1,7 +1,8 @@
 -- `vector::mov` meets its contract.
 use mathlib.Core.Path.{refl, _∙_}
-use Rattle.vector.specs.Effect.{resultOf, vectored, secondOf}
-use Rattle.lanes.proofs.Marking.{mov-marked}
+use Rattle.ports.specs.inner.Ports.{secondOf}
+use Rattle.vector.specs.inner.Effect.{resultOf, vectored}
+use Rattle.lanes.proofs.Unpacking.{mov-packs}
 use borrow.Author.Needs.{needs}
 use Rattle.vector.proofs.mov.Statement.{statement}
 use Rattle.vector.proofs.mov.Tie as tie
@@ -17,4 +18,4 @@ mov-spec =
     (λ c κs. search needs)
     (λ c. search needs)
     (λ c. search needs)
-    (λ c. c .before .before .before .before .put .ensures ∙ rw (c .before .before .before .before .before .before .before .mov .ensures, mov-marked, c .before .before .before .before .before .before .before .before .vreg .ensures, c .before .before .before .before .before .before .before .before .before .before .cut .ensures .0) refl))
+    (λ c. c .before .before .before .before .put .ensures ∙ rw (c .before .before .before .before .before .before .before .mov .ensures, mov-packs, c .before .before .before .before .before .before .before .before .vreg .ensures, c .before .before .before .before .before .before .before .before .before .before .cut .ensures .0) refl))

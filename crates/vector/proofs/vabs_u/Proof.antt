@@ -1,7 +1,8 @@
 -- `vector::vabs_u` meets its contract.
 use mathlib.Core.Path.{refl, _∙_}
-use Rattle.vector.specs.Effect.{resultOf, vectored, secondOf}
-use Rattle.lanes.proofs.Marking.{arith-marked}
+use Rattle.ports.specs.inner.Ports.{secondOf}
+use Rattle.vector.specs.inner.Effect.{resultOf, vectored}
+use Rattle.lanes.proofs.Unpacking.{arith-packs}
 use borrow.Author.Needs.{needs}
 use Rattle.vector.proofs.vabs_u.Statement.{statement}
 use Rattle.vector.proofs.vabs_u.Tie as tie
@@ -17,4 +18,4 @@ vabs-u-spec =
     (λ c κs. search needs)
     (λ c. search needs)
     (λ c. search needs)
-    (λ c. c .before .before .before .before .put .ensures ∙ rw (c .before .before .before .before .before .before .before .vabs-u .ensures, arith-marked, c .before .before .before .before .before .before .before .before .vreg .ensures, c .before .before .before .before .before .before .before .before .before .before .cut .ensures .0) refl))
+    (λ c. c .before .before .before .before .put .ensures ∙ rw (c .before .before .before .before .before .before .before .vabs-u .ensures, arith-packs, c .before .before .before .before .before .before .before .before .vreg .ensures, c .before .before .before .before .before .before .before .before .before .before .cut .ensures .0) refl))

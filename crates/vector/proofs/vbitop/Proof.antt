@@ -1,7 +1,8 @@
 -- `vector::vbitop` meets its contract.
 use mathlib.Core.Path.{refl, _∙_}
-use Rattle.vector.specs.Effect.{resultOf, vectored, secondOf}
-use Rattle.lanes.proofs.Marking.{bitop-marked}
+use Rattle.ports.specs.inner.Ports.{secondOf}
+use Rattle.vector.specs.inner.Effect.{resultOf, vectored}
+use Rattle.lanes.proofs.Unpacking.{bitop-packs}
 use borrow.Author.Needs.{needs}
 use Rattle.vector.proofs.vbitop.Statement.{statement}
 use Rattle.vector.proofs.vbitop.Tie as tie
@@ -18,4 +19,4 @@ vbitop-spec =
     (λ c κs. search needs)
     (λ c. search needs)
     (λ c. search needs)
-    (λ c. c .before .before .before .before .put .ensures ∙ rw (c .before .before .before .before .before .before .before .vbitop .ensures, bitop-marked, c .before .before .before .before .before .before .before .before .vreg2 .ensures, c .before .before .before .before .before .before .before .before .before .before .vreg .ensures, c .before .before .before .before .before .before .before .before .before .before .before .before .cut .ensures .0) refl))
+    (λ c. c .before .before .before .before .put .ensures ∙ rw (c .before .before .before .before .before .before .before .vbitop .ensures, bitop-packs, c .before .before .before .before .before .before .before .before .vreg2 .ensures, c .before .before .before .before .before .before .before .before .before .before .vreg .ensures, c .before .before .before .before .before .before .before .before .before .before .before .before .cut .ensures .0) refl))

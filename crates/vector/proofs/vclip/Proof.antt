@@ -1,7 +1,8 @@
 -- `vector::vclip` meets its contract.
 use mathlib.Core.Path.{refl, _∙_}
-use Rattle.vector.specs.Effect.{resultOf, vectored, secondOf}
-use Rattle.lanes.proofs.Marking.{clip-marked}
+use Rattle.ports.specs.inner.Ports.{secondOf}
+use Rattle.vector.specs.inner.Effect.{resultOf, vectored}
+use Rattle.lanes.proofs.Unpacking.{clip-packs}
 use borrow.Author.Needs.{needs}
 use Rattle.vector.proofs.vclip.Statement.{statement}
 use Rattle.vector.proofs.vclip.Tie as tie
@@ -19,4 +20,4 @@ vclip-spec =
     (λ c κs. search needs)
     (λ c. search needs)
     (λ c. search needs)
-    (λ c. c .before .before .before .before .put .ensures ∙ rw (c .before .before .before .before .before .before .before .vclip .ensures, clip-marked, c .before .before .before .before .before .before .before .before .vreg3 .ensures, c .before .before .before .before .before .before .before .before .before .before .vreg2 .ensures, c .before .before .before .before .before .before .before .before .before .before .before .before .vreg .ensures, c .before .before .before .before .before .before .before .before .before .before .before .before .before .before .cut .ensures .0) refl))
+    (λ c. c .before .before .before .before .put .ensures ∙ rw (c .before .before .before .before .before .before .before .vclip .ensures, clip-packs, c .before .before .before .before .before .before .before .before .vreg3 .ensures, c .before .before .before .before .before .before .before .before .before .before .vreg2 .ensures, c .before .before .before .before .before .before .before .before .before .before .before .before .vreg .ensures, c .before .before .before .before .before .before .before .before .before .before .before .before .before .before .cut .ensures .0) refl))

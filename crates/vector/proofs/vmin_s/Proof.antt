@@ -1,7 +1,8 @@
 -- `vector::vmin_s` meets its contract.
 use mathlib.Core.Path.{refl, _∙_}
-use Rattle.vector.specs.Effect.{resultOf, vectored, secondOf}
-use Rattle.lanes.proofs.Marking.{arith-marked}
+use Rattle.ports.specs.inner.Ports.{secondOf}
+use Rattle.vector.specs.inner.Effect.{resultOf, vectored}
+use Rattle.lanes.proofs.Unpacking.{arith-packs}
 use borrow.Author.Needs.{needs}
 use Rattle.vector.proofs.vmin_s.Statement.{statement}
 use Rattle.vector.proofs.vmin_s.Tie as tie
@@ -18,4 +19,4 @@ vmin-s-spec =
     (λ c κs. search needs)
     (λ c. search needs)
     (λ c. search needs)
-    (λ c. c .before .before .before .before .put .ensures ∙ rw (c .before .before .before .before .before .before .before .vmin-s .ensures, arith-marked, c .before .before .before .before .before .before .before .before .second-of .ensures, c .before .before .before .before .before .before .before .before .before .before .vreg .ensures, c .before .before .before .before .before .before .before .before .before .before .before .before .cut .ensures .0) refl))
+    (λ c. c .before .before .before .before .put .ensures ∙ rw (c .before .before .before .before .before .before .before .vmin-s .ensures, arith-packs, c .before .before .before .before .before .before .before .before .second-of .ensures, c .before .before .before .before .before .before .before .before .before .before .vreg .ensures, c .before .before .before .before .before .before .before .before .before .before .before .before .cut .ensures .0) refl))

@@ -1,7 +1,8 @@
 -- `vector::vmov` meets its contract.
 use mathlib.Core.Path.{refl, _∙_}
-use Rattle.vector.specs.Effect.{resultOf, vectored, secondOf}
-use Rattle.lanes.proofs.Marking.{mov-imm-marked}
+use Rattle.ports.specs.inner.Ports.{secondOf}
+use Rattle.vector.specs.inner.Effect.{resultOf, vectored}
+use Rattle.lanes.proofs.Unpacking.{mov-imm-packs}
 use borrow.Author.Needs.{needs}
 use Rattle.vector.proofs.vmov.Statement.{statement}
 use Rattle.vector.proofs.vmov.Tie as tie
@@ -16,4 +17,4 @@ vmov-spec =
     (λ c κs. search needs)
     (λ c. search needs)
     (λ c. search needs)
-    (λ c. c .before .before .before .before .put .ensures ∙ rw (c .before .before .before .before .before .before .before .vmov .ensures, mov-imm-marked, c .before .before .before .before .before .before .before .before .cut .ensures .0) refl))
+    (λ c. c .before .before .before .before .put .ensures ∙ rw (c .before .before .before .before .before .before .before .vmov .ensures, mov-imm-packs, c .before .before .before .before .before .before .before .before .cut .ensures .0) refl))

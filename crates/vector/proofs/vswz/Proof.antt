@@ -1,6 +1,6 @@
 -- `vector::vswz` meets its contract.
 use mathlib.Core.Path.{refl}
-use Rattle.vector.specs.Effect.{resultOf, vectored}
+use Rattle.vector.specs.inner.Effect.{resultOf, vectored}
 use borrow.Author.Needs.{needs}
 use Rattle.vector.proofs.vswz.Statement.{statement}
 use Rattle.vector.proofs.vswz.Tie as tie
@@ -17,4 +17,5 @@ vswz-spec =
     (λ c κs. search needs)
     (λ c κs. search needs)
     (λ c. search needs)
-    (λ c. rw (c .before .before .set-vreg .ensures, c .before .before .before .vswz .ensures, c .before .before .before .before .before .vreg3 .ensures, c .before .before .before .before .before .before .before .vreg2 .ensures, c .before .before .before .before .before .before .before .before .before .vreg .ensures, c .before .before .before .before .before .before .before .before .before .before .before .cut .ensures .0) refl))
+    (λ c. search needs)
+    (λ c. rw (c .no-counts .ensures, c .before .before .before .set-vreg .ensures, c .before .before .before .before .vswz .ensures, c .before .before .before .before .before .before .vreg3 .ensures, c .before .before .before .before .before .before .before .before .vreg2 .ensures, c .before .before .before .before .before .before .before .before .before .before .vreg .ensures, c .before .before .before .before .before .before .before .before .before .before .before .before .cut .ensures .0) refl))

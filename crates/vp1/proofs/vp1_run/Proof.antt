@@ -2,23 +2,24 @@
 use mathlib.Core.Path.{_≡_}
 use Prim.Native.Nat.{ℕ}
 use borrow.Author.Needs.{needs}
-use Rattle.model.specs.State.{State, state}
+use Rattle.pieces.specs.State.{State, state}
 use Rattle.model.specs.Run.{RunOutcome, ended}
-use Rattle.machine.specs.Answers.{endNumber, runOutcome}
+use Rattle.terms.specs.Answers.{number}
+use Rattle.machine.specs.Answers.{runOutcome}
 use Rattle.machine.specs.declared.Ran.{Ran}
 use Rattle.vp1.proofs.vp1_run.Statement.{statement}
 use Rattle.vp1.proofs.vp1_run.Tie as tie
 
-told : (n : ℕ) (x : Ran) (s : State) (o : RunOutcome) → n ≡ endNumber (x .end) → runOutcome x s ≡ o → ended n (x .steps) (x .accesses) s ≡ o
+told : (n : ℕ) (x : Ran) (s : State) (o : RunOutcome) → n ≡ number (x .end) → runOutcome x s ≡ o → ended n (x .steps) (x .counts) s ≡ o
 told n x s o e g = rw e g
 
 returns : tie.Need-returns
 returns c =
     let p = c .before .before .before .before .before .before .before .before .before .before .before .before .before in
     let x = p .run .last .1 .1 in
-    told (c .end-number .result) (p .run .result)
+    told (c .number .result) (p .run .result)
     (state (x .0) (x .1 .0) (x .1 .1 .0) (x .1 .1 .1 .0) (x .1 .1 .1 .1 .0) (x .1 .1 .1 .1 .1 .0)) _
-    (c .end-number .ensures) (p .run .ensures)
+    (c .number .ensures) (p .run .ensures)
 
 pub vp1-run-spec : {M : Type 1} → statement M
 vp1-run-spec =

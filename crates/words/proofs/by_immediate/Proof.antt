@@ -6,7 +6,7 @@ use mir.Val.{SFits}
 use mir.Facts.{toZ-ofZ}
 use lib.IntN.{ℤ}
 use Rattle.words.specs.Fields.{fieldsOf}
-use Rattle.words.specs.Meant.{moving}
+use Rattle.words.specs.inner.Meant.{moving}
 use Rattle.words.specs.declared.Increment.the-variants.{Immediate}
 use Rattle.words.proofs.by_immediate.Statement.{statement}
 use Rattle.words.proofs.by_immediate.Tie as tie

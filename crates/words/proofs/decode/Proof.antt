@@ -4,13 +4,13 @@ use mathlib.Core.Bool.{Bool, true, false}
 use mathlib.Core.List.{List, [], _∷_}
 use mathlib.Core.Logic.{⊎-elim}
 use Prim.Native.Nat.{ℕ}
-use Rattle.lanes.specs.declared.Calc.{Calc}
-use Rattle.lanes.specs.declared.Calc.the-variants.{Min, Max, Add, Sub}
+use Rattle.lane.specs.declared.Calc.{Calc}
+use Rattle.lane.specs.declared.Calc.the-variants.{Min, Max, Add, Sub}
 use Rattle.words.specs.Fields.{fieldsOf, secondOf}
 use Rattle.words.specs.Table.{arithOf, shiftOf, decodeOf, decodeAt, rows}
 use Rattle.words.specs.Insn as N
 use Rattle.words.specs.Decoded as D
-use Rattle.words.specs.Meant.{byByte, moving, meant, sidedBy}
+use Rattle.words.specs.inner.Meant.{byByte, moving, meant, sidedBy}
 use Rattle.words.specs.declared.Increment.the-variants.{Register, Immediate}
 use Rattle.words.specs.declared.AccessAdd.{AccessAdd}
 use Rattle.words.specs.declared.Insn.{Insn}

@@ -1,7 +1,7 @@
 -- `lanes::packed::zeros` meets its contract: two halves of eight digits.
 use borrow.Author.Needs.{needs}
 use native.Mathlib.Omega.{arith}
-use Rattle.lanes.specs.Marks.{zerosOf}
+use Rattle.lanes.specs.inner.Unpacked.{zerosOf}
 use Rattle.lanes.proofs.Packing.{digits}
 use Rattle.lanes.proofs.packed.zeros.Statement.{statement}
 use Rattle.lanes.proofs.packed.zeros.Tie as tie

@@ -17,6 +17,7 @@ run-spec = tie.close (tie.spec Inv-loop μ-loop
     (λ c κs. search needs)
     (λ c κs. search needs)
     (λ c κs. search needs)
+    (λ c κs. search needs)
     (λ c. search needs)
     (λ c. search needs)
     (λ c. search needs)

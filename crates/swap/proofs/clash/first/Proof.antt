@@ -4,8 +4,8 @@ use Prim.Native.Nat.{_-_}
 use native.Mathlib.Omega.{arith}
 use borrow.Author.Needs.{needs}
 use lib.ListN.{length, drop}
-use Rattle.swap.specs.Listing.{held}
-use Rattle.swap.specs.Answers.{firstOf}
+use Rattle.footprint.specs.inner.Numbers.{held}
+use Rattle.swap.specs.inner.Calls.{firstOf}
 use Rattle.swap.proofs.Search.{first-none, first-here, first-later}
 use Rattle.swap.proofs.clash.first.Statement.{statement}
 use Rattle.swap.proofs.clash.first.Tie as tie

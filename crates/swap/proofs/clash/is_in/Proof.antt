@@ -5,7 +5,7 @@ use native.Mathlib.Omega.{arith}
 use borrow.Author.Needs.{needs}
 use lib.ListN.{length, drop}
 use Rattle.model.specs.Swap.{has}
-use Rattle.swap.specs.Listing.{held}
+use Rattle.footprint.specs.inner.Numbers.{held}
 use Rattle.swap.proofs.Search.{has-none, has-here, has-later}
 use Rattle.swap.proofs.clash.is_in.Statement.{statement}
 use Rattle.swap.proofs.clash.is_in.Tie as tie

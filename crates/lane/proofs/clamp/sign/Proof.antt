@@ -1,0 +1,13 @@
+-- `lane::clamp::sign` meets its contract, by flipped bytes.
+use borrow.Author.Needs.{needs}
+use Rattle.lane.proofs.Clamped.{clip-sign}
+use Rattle.lane.proofs.clamp.sign.Statement.{statement}
+use Rattle.lane.proofs.clamp.sign.Tie as tie
+
+pub sign-spec : {M : Type 1} → statement M
+sign-spec =
+    tie.close
+    (tie.spec
+    (λ c κs. search needs) (λ c κs. search needs)
+    (λ c. let s = c .before .before in let f = s .fits in
+    rw (c .before .either .ensures, c .either2 .ensures) (clip-sign _ _ _ (f .x .fits) (f .y .fits) (f .z .fits) (s .pre))))

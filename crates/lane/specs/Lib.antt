@@ -1,0 +1,2 @@
+-- What an operation makes of one component.
+pub mod Lane

@@ -1,2 +1,0 @@
--- One register, or one register's flags, of a lent piece.
-pub mod Regs

@@ -1,0 +1,3 @@
+-- Inner to the proof of code: nobody has to believe it.
+pub mod Loads
+pub mod Steps

@@ -1,0 +1,52 @@
+-- The numbers tell the answers apart.
+use mathlib.Core.Path.{_≡_, refl, sym, ap, ap₂, _∙_}
+use mathlib.Core.List.{List, [], _∷_}
+use Prim.Native.Nat.{ℕ}
+use lib.ListN.{getD}
+use Rattle.terms.specs.Answers.{number}
+use Rattle.terms.specs.inner.Runs.{endOf, countsIn}
+use Rattle.terms.specs.declared.Refusal.the-variants as R
+use Rattle.terms.specs.declared.Counts.{Counts}
+use Rattle.terms.specs.declared.Answer.{Answer}
+use Rattle.terms.specs.declared.Answer.the-variants as A
+use Rattle.terms.specs.declared.End.{End}
+use Rattle.terms.specs.declared.End.the-variants as E
+
+-- the answers in the order of their numbers
+ends : List End
+ends = E.Done ∷ E.Refused R.Foreign ∷ E.Refused R.Undocumented ∷ E.Refused R.SideIndex ∷ E.Refused R.SideMask ∷ E.Lengths ∷ E.Ragged ∷ E.Spent ∷ []
+
+pub ended : ℕ → End
+ended n = getD ends n E.Done
+
+pub back : (e : End) → ended (number e) ≡ e
+unfolding ended ends
+back E.Done = refl
+back (E.Refused R.Foreign) = refl
+back (E.Refused R.Undocumented) = refl
+back (E.Refused R.SideIndex) = refl
+back (E.Refused R.SideMask) = refl
+back E.Lengths = refl
+back E.Ragged = refl
+back E.Spent = refl
+
+-- their numbers tell the ends apart
+pub number-inj : (d e : End) → number d ≡ number e → d ≡ e
+number-inj d e h = sym (back d) ∙ ap ended h ∙ back e
+
+answered : End → Counts → Answer
+answered E.Done c = A.Done c
+answered (E.Refused k) c = A.Refused k
+answered E.Lengths c = A.Done c
+answered E.Ragged c = A.Done c
+answered E.Spent c = A.Done c
+
+answer-back : (x : Answer) → answered (endOf x) (countsIn x) ≡ x
+unfolding answered
+answer-back (A.Done c) = refl
+answer-back (A.Refused k) = refl
+
+-- a number and what is counted tell a triple's answers apart
+pub answer-inj : (x y : Answer) → number (endOf x) ≡ number (endOf y) → countsIn x ≡ countsIn y → x ≡ y
+answer-inj x y e f =
+    sym (answer-back x) ∙ ap₂ answered (number-inj (endOf x) (endOf y) e) f ∙ answer-back y

@@ -1,0 +1,22 @@
+-- Document 01's number of each answer. "Answer numbers".
+use Prim.Native.Nat.{ℕ}
+use Rattle.terms.specs.declared.Refusal.the-variants as R
+use Rattle.terms.specs.declared.End.{End}
+use Rattle.terms.specs.declared.End.the-variants as E
+
+abbrev pub number : End → ℕ
+number E.Done = 0
+-- "opcode below 0x80 or above 0xdf"
+number (E.Refused R.Foreign) = 1
+-- "opcode from 0x80 to 0xdf, not documented"
+number (E.Refused R.Undocumented) = 2
+-- "instruction uses SRC2S, side index above 31"
+number (E.Refused R.SideIndex) = 3
+-- "vcmpad, side mask word above 0x1ffff"
+number (E.Refused R.SideMask) = 4
+-- "one of the six pieces has another length"
+number E.Lengths = 5
+-- "word count not a multiple of 3"
+number E.Ragged = 6
+-- "budget spent, list not finished"
+number E.Spent = 7

@@ -1,0 +1,20 @@
+-- A run of triples: how it ends with a triple's answer, what that counts, and how many steps it can have.
+use Prim.Native.Nat.{ℕ}
+use Rattle.terms.specs.Counts.{none}
+use Rattle.terms.specs.declared.Counts.{Counts}
+use Rattle.terms.specs.declared.End.{End}
+use Rattle.terms.specs.declared.End.the-variants as E
+use Rattle.terms.specs.declared.Answer.{Answer}
+use Rattle.terms.specs.declared.Answer.the-variants as A
+
+abbrev pub endOf : Answer → End
+endOf (A.Done c) = E.Done
+endOf (A.Refused k) = E.Refused k
+
+abbrev pub countsIn : Answer → Counts
+countsIn (A.Done c) = c
+countsIn (A.Refused k) = none
+
+-- a budget has 32 bits
+abbrev pub most : ℕ
+most = 4294967296

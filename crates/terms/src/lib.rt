@@ -1,0 +1,102 @@
+// The terms that every layer speaks in: the way of an access, a half of a word, why a call stopped and its number, what a step counts.
+ghost use mathlib.Core.Path.{_≡_};
+ghost use Rattle.terms.specs.Answers.{number};
+ghost use Rattle.terms.specs.inner.Runs.{endOf, most};
+ghost use Rattle.terms.specs.Counts.{none, entering, plus, Within};
+
+// How an access goes: along a row, down a column, or over the four bytes of a word.
+pub enum Way {
+    Horizontal,
+    Vertical,
+    Scalar,
+}
+
+pub enum Half {
+    Low,
+    High,
+}
+
+// Why a triple is refused.
+pub enum Refusal {
+    Foreign,
+    Undocumented,
+    SideIndex,
+    SideMask,
+}
+
+// Why a call stopped: all is done, a triple was refused, a piece has another length, the words are no whole triples, the budget is spent.
+pub enum End {
+    Done,
+    Refused(Refusal),
+    Lengths,
+    Ragged,
+    Spent,
+}
+
+// What a step reports besides the state, and a run in total.
+pub struct Counts {
+    pub accesses: u64,
+}
+
+// One triple's answer, on pieces of right lengths.
+pub enum Answer {
+    Done(Counts),
+    Refused(Refusal),
+}
+
+fn refused_number(k: Refusal) -> u32
+    ensures { λ n. ⌜ n ≡ number (End.Refused k) ⌝ }
+{
+    match k {
+        Refusal::Foreign => 1,
+        Refusal::Undocumented => 2,
+        Refusal::SideIndex => 3,
+        Refusal::SideMask => 4,
+    }
+}
+
+// Document 01's number of an answer.
+pub fn number(e: End) -> u32
+    ensures { λ n. ⌜ n ≡ number e ⌝ }
+{
+    match e {
+        End::Done => 0,
+        End::Refused(k) => refused_number(k),
+        End::Lengths => 5,
+        End::Ragged => 6,
+        End::Spent => 7,
+    }
+}
+
+// How a run ends with a triple's answer.
+pub fn end_of(x: Answer) -> End
+    ensures { λ e. ⌜ e ≡ endOf x ⌝ }
+{
+    match x {
+        Answer::Done(_) => End::Done,
+        Answer::Refused(k) => End::Refused(k),
+    }
+}
+
+pub fn no_counts() -> Counts
+    ensures { λ c. ⌜ c ≡ none ⌝ }
+{
+    Counts { accesses: 0 }
+}
+
+// What an access counts.
+pub fn entering(cells: u64) -> Counts
+    ensures { λ c. ⌜ c ≡ entering cells ⌝ }
+{
+    Counts { accesses: cells }
+}
+
+// The sum of two steps' counts, or of two runs' that together have fewer steps than a budget can ask for.
+pub fn sum(x: Counts, y: Counts) -> Counts
+    requires { ⌜ Within most (plus x y) ⌝ }
+    ensures { λ c. ⌜ c ≡ plus x y ⌝ }
+{
+    Counts {
+        accesses: x.accesses + y.accesses,
+    }
+}
