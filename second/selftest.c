@@ -1,7 +1,8 @@
-/* selftest.c - checks the second simulator against the paper's ten examples, the
- * four lines of the lab program, and, for every address and code, against the
- * address lists written out and counted; and the places and exchanges against
- * cases made by hand from the table. Prints nothing and exits 0 if all is well. */
+/* selftest.c - checks the second simulator against document 01's ten examples, cases
+ * of vclip made by hand, the four lines of the lab program, and, for every address and
+ * code, against the address lists written out and counted; and the places and
+ * exchanges against cases made by hand from the table. Prints nothing and exits 0 if
+ * all is well. */
 #include "vp1_second.h"
 
 #include <stdio.h>
@@ -310,6 +311,67 @@ static void example_10(void)
     CHECK(step(0xc3000000, 0, 0) == 2);
     CHECK(step(0x7f000000, 0, 0) == 1);
     CHECK(step(0xe0000000, 0, 0) == 1);
+}
+
+/* ---- The ends of vclip's range ---- */
+
+/* x clipped to the ends y and z; then the sign, set where x is at or beyond an end or
+ * y >= z, and the zero. The first row is document 02's example, wish 1. */
+static const struct clip { int8_t x, y, z, res; uint8_t sign, zero; } clips[32] = {
+    { 5, 5, 9, 5, 1, 0 },             { 4, 5, 9, 5, 1, 0 },
+    { 6, 5, 9, 6, 0, 0 },             { 7, 5, 9, 7, 0, 0 },
+    { 8, 5, 9, 8, 0, 0 },             { 9, 5, 9, 9, 1, 0 },
+    { 10, 5, 9, 9, 1, 0 },            { -128, 5, 9, 5, 1, 0 },
+    { 4, 9, 5, 5, 1, 0 },             { 5, 9, 5, 5, 1, 0 },
+    { 6, 9, 5, 6, 1, 0 },             { 7, 9, 5, 7, 1, 0 },
+    { 8, 9, 5, 8, 1, 0 },             { 9, 9, 5, 9, 1, 0 },
+    { 10, 9, 5, 9, 1, 0 },            { 6, 7, 7, 7, 1, 0 },
+    { 7, 7, 7, 7, 1, 0 },             { 8, 7, 7, 7, 1, 0 },
+    { -10, -9, -5, -9, 1, 0 },        { -9, -9, -5, -9, 1, 0 },
+    { -8, -9, -5, -8, 0, 0 },         { -6, -9, -5, -6, 0, 0 },
+    { -5, -9, -5, -5, 1, 0 },         { -4, -9, -5, -5, 1, 0 },
+    { -128, -128, 127, -128, 1, 0 },  { -127, -128, 127, -127, 0, 0 },
+    { 126, -128, 127, 126, 0, 0 },    { 127, -128, 127, 127, 1, 0 },
+    { 0, -128, 127, 0, 0, 1 },        { 0, 127, -128, 0, 1, 1 },
+    { -3, 0, 9, 0, 1, 1 },            { 0, -9, 0, 0, 1, 1 },
+};
+
+/* Sixteen rows into $v1 and its ends $v2 and $v3; returns the flags that they ask for. */
+static uint32_t load_clips(const struct clip *rows)
+{
+    uint32_t flags = 0;
+
+    for (int i = 0; i < 16; i++) {
+        v[16 + i] = (uint8_t)rows[i].x;
+        v[32 + i] = (uint8_t)rows[i].y;
+        v[48 + i] = (uint8_t)rows[i].z;
+        flags |= (uint32_t)rows[i].sign << i | (uint32_t)rows[i].zero << (16 + i);
+    }
+    return flags;
+}
+
+/* Sixteen rows in one step, into $v4: the flags go into the $vc of the field, or into
+ * none. */
+static void sixteen_clips(const struct clip *rows, uint32_t field)
+{
+    uint32_t flags;
+
+    clear();
+    memset(vc, 0x5a, sizeof vc);
+    flags = load_clips(rows);
+    CHECK(step(word(0xa4, 4, 1, 2, 3 << 4 | field), 0, 0) == 0);
+    for (int i = 0; i < 16; i++)
+        CHECK(v[64 + i] == (uint8_t)rows[i].res);
+    for (uint32_t n = 0; n < 4; n++)
+        CHECK(vc[n] == (n == field ? flags : 0x5a5a5a5a));
+}
+
+static void clips_at_both_ends(void)
+{
+    for (uint32_t field = 0; field < 8; field++) {
+        sixteen_clips(clips, field);
+        sixteen_clips(clips + 16, field);
+    }
 }
 
 /* ---- The lab program's lines ---- */
@@ -699,6 +761,7 @@ int main(void)
     examples_6_to_8();
     example_9();
     example_10();
+    clips_at_both_ends();
     lab_lines();
     translation_is_one_to_one();
     for (int way = HORIZONTAL; way <= SCALAR; way++) {

@@ -497,8 +497,8 @@ INLINE void vsar(const struct pieces *p, uint32_t w, vec x, vec y)
     v_finish(p, w, res, res, tested);
 }
 
-/* Source 1 on an endpoint is not moved, and so not flagged. (The chapter flags it;
- * the rules that decide speak of "moved".) */
+/* Source 1 on an end keeps its value and still counts as clipped, so the flag is
+ * taken from the ends and not from whether the byte changed. */
 INLINE void vclip(const struct pieces *p, uint32_t w)
 {
     vec x = v_src1(p, w), y = v_src2(p, w), z = v_src3(p, w), res, sign;
@@ -509,7 +509,7 @@ INLINE void vclip(const struct pieces *p, uint32_t w)
         int8_t t = s1 < start ? start : s1 > end ? end : s1;
 
         res.b[i] = (uint8_t)t;
-        sign.b[i] = top_if((t != s1) | (s2 >= s3));
+        sign.b[i] = top_if((s1 <= start) | (s1 >= end) | (s2 >= s3));
     }
     v_finish(p, w, res, sign, res);
 }

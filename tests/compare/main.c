@@ -22,6 +22,7 @@ static const struct {
     {"lists", "lists, each by single steps too", lists},
     {"places", "lists of places", places},
     {"pairs", "pairs of triples, and both orders of the free ones", pairs},
+    {"ends", "steps of vclip: every byte between every two ends", ends},
 };
 
 enum { PARTS = sizeof parts / sizeof parts[0] };

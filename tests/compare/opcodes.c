@@ -36,8 +36,7 @@ void refresh(const uint32_t *t)
     poke_byte(below(LENGTH(ds)), (uint8_t)draw());
 }
 
-/* A step that, if done, makes the state of the next case. */
-static int step(const uint32_t *triple)
+int step_on(const uint32_t *triple)
 {
     struct asked q = a_step(triple);
     struct outcome said;
@@ -58,7 +57,7 @@ static int steps_of(uint32_t opcode)
         draw_triple(triple, opcode);
         refresh(triple);
         bend(triple, k);
-        if (!step(triple))
+        if (!step_on(triple))
             return 0;
     }
     return 1;
@@ -110,7 +109,7 @@ static int four_calls(const uint32_t *t)
     if (!ask(&q, 0, &said))
         return 0;
     go_on();
-    return step(t);
+    return step_on(t);
 }
 
 /* Whether documented.h lists the opcodes that are not refused, and no other. */

@@ -10,6 +10,7 @@ int lengths(void);
 int lists(void);
 int places(void);
 int pairs(void);
+int ends(void);
 
 /* Prints how many pairs were free, and how many clashed at each kind of place; returns 0 where there is none of a kind that can occur. */
 int print_pairs(void);
@@ -20,6 +21,9 @@ unsigned long share(unsigned long n);
 
 /* Redraws the state that the triple's fields name, and the whole of it at every 1,024th case. */
 void refresh(const uint32_t *triple);
+
+/* One step; if it is done, the state that it leaves is the next case's. Returns 0 where it differs. */
+int step_on(const uint32_t *triple);
 
 /* Bends a triple, and the state, towards what drawn numbers seldom reach: one of BENDS ways, by k. */
 enum { BENDS = 32 };

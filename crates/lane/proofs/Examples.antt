@@ -1,9 +1,9 @@
--- Document 01's examples 6 to 9, computed.
+-- Document 01's examples 6 to 9 and document 02's of wish 1, computed.
 use mathlib.Core.Path.{_≡_, refl}
 use mathlib.Core.Bool.{true, false}
 use Rattle.signed.specs.Signed.{sext, widen, low, clip, shifted}
 use Rattle.lane.specs.declared.Calc.the-variants.{Add, Neg, Sub}
-use Rattle.lane.specs.Lane.{saturated, result, arithLane, shiftLane, add9Lane}
+use Rattle.lane.specs.Lane.{saturated, result, arithLane, shiftLane, clipBetween, clipLane, add9Lane}
 
 vadd-signed : arithLane Add true 0x64 0x64 ≡ record { byte = 0x7f; sign = false; zero = false }
 unfolding arithLane saturated result widen sext low clip
@@ -28,3 +28,7 @@ vsar = refl
 vadd9 : add9Lane 0x10 0x1f0 ≡ record { byte = 0; sign = false; zero = true }
 unfolding add9Lane saturated sext low clip
 vadd9 = refl
+
+vclip-on-start : clipLane 5 5 9 ≡ record { byte = 5; sign = true; zero = false }
+unfolding clipLane clipBetween sext low
+vclip-on-start = refl

@@ -1,6 +1,7 @@
--- The laws of signed bytes, of saturated results, of each operation on one component, and document 01's examples.
+-- The laws of signed bytes, of saturated results, of each operation on one component, of vclip's sign flag beside its former reading, and the papers' examples.
 pub mod Biased
 pub mod Saturated
 pub mod Operations
+pub mod Edges
 pub mod Clamped
 pub mod Examples

@@ -4,7 +4,7 @@ use Prim.Native.Nat.{ℕ, _+_, _*_, _-_, min}
 use lib.Bits.{bitAnd, bitOr, bitXor}
 use lib.Dec.{eqb, ltb, leb}
 use lib.IntN.{ℤ, pos, negsuc, _+ℤ_, _-ℤ_, negℤ, natAbs}
-use lib.Signed.{ltZ}
+use lib.Signed.{ltZ, leZ}
 use Rattle.bits.specs.Bitop.{bit, bitop}
 use Rattle.signed.specs.Signed.{widen, sext, low, clip, isZero, shifted}
 use Rattle.lane.specs.declared.Calc.{Calc}
@@ -40,12 +40,12 @@ arithLane op signed x y = saturated signed (result op (widen signed x) (widen si
 unfoldable pub shiftLane : Bool → ℕ → ℕ → Lane
 shiftLane signed x y = let r = shifted (widen signed x) (sext y 3) in record { byte = low 8 r; sign = leb 0x80 (low 8 r); zero = isZero r }
 
--- s between start and end; the sign flag is set where s was moved, or already was set
+-- s between start and end; the sign flag is set where s is at or beyond either end, or already was set
 unfoldable pub clipBetween : Bool → ℤ → ℤ → ℤ → Lane
 clipBetween sf s start end =
     let res = cond (ltZ s start) start s in
     let out = cond (ltZ end res) end res in
-    record { byte = low 8 out; sign = sf || (ltZ s start || ltZ end res); zero = isZero out }
+    record { byte = low 8 out; sign = sf || (leZ s start || leZ end s); zero = isZero out }
 
 -- vclip: start and end are sources 2 and 3 in order; the sign flag is set, too, where source 2 >= source 3
 unfoldable pub clipLane : ℕ → ℕ → ℕ → Lane

@@ -19,12 +19,12 @@ pub fn nearest(x: u8, y: u8, z: u8) -> u8
     either(hi < t, hi, t) ^ 128
 }
 
-// The sign flag of a component that became `out`: it was moved, or its bounds are not in order.
-pub fn sign(x: u8, y: u8, z: u8, out: u8) -> u8
-    requires { ⌜ out ≡ clipLane x y z .byte ⌝ }
+// The sign flag: set unless source 1 lies strictly between sources 2 and 3, in this order.
+pub fn sign(x: u8, y: u8, z: u8) -> u8
     ensures { λ r. ⌜ r ≡ cond (clipLane x y z .sign) 255 0 ⌝ }
 {
-    either(out != x, 255, 0) | either((y ^ 128) < (z ^ 128), 0, 255)
+    let p = x ^ 128;
+    either(((y ^ 128) < p) & (p < (z ^ 128)), 0, 255)
 }
 
 fn size(x: u8) -> u8

@@ -19,13 +19,12 @@ fn bytes(a: [u8; 16], b: [u8; 16], c: [u8; 16]) -> [u8; 16]
     x
 }
 
-fn signs(a: [u8; 16], b: [u8; 16], c: [u8; 16], x: [u8; 16]) -> [u8; 16]
-    requires { ⌜ x ≡ listed 16 (λ i. clipLane (getD a i 0) (getD b i 0) (getD c i 0) .byte) ⌝ }
+fn signs(a: [u8; 16], b: [u8; 16], c: [u8; 16]) -> [u8; 16]
     ensures { λ r. ⌜ r ≡ listed 16 (λ i. cond (clipLane (getD a i 0) (getD b i 0) (getD c i 0) .sign) 255 0) ⌝ }
 {
     let mut s = [0u8; 16];
     for i in 0..16 {
-        s[i] = clamp::sign(a[i], b[i], c[i], x[i]);
+        s[i] = clamp::sign(a[i], b[i], c[i]);
     }
     s
 }
@@ -34,7 +33,7 @@ pub fn vclip(a: [u8; 16], b: [u8; 16], c: [u8; 16]) -> Unpacked
     ensures { λ r. ⌜ r ≡ clipUnpacked a b c ⌝ }
 {
     let x = bytes(a, b, c);
-    let tops = signs(a, b, c, x);
+    let tops = signs(a, b, c);
     Unpacked {
         bytes: x,
         tested: x,

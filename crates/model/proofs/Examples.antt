@@ -1,4 +1,4 @@
--- Document 01's worked examples 4 to 10, from instruction words.
+-- Document 01's worked examples 4 to 10 and document 02's of wish 1, from instruction words.
 use mathlib.Core.Path.{_≡_, refl, ap, _∙_}
 use Prim.Native.Nat.{ℕ, _+_, _*_, _/_, _%_, _<_}
 use native.Mathlib.Omega.{arith}
@@ -11,8 +11,8 @@ use Rattle.banks.specs.Line.{line, rowStart, startOf, addresses}
 use Rattle.banks.specs.Line as L
 use Rattle.terms.specs.declared.Way.the-variants.{Horizontal}
 use Rattle.signed.specs.Signed.{sext, widen, low, clip, shifted}
-use Rattle.lane.specs.Lane.{saturated, result, arithLane, shiftLane, add9Lane}
-use Rattle.lanes.specs.Lanes.{lanesOf, listed, flags, arithLanes, shiftLanes, add9Lanes}
+use Rattle.lane.specs.Lane.{saturated, result, arithLane, shiftLane, clipBetween, clipLane, add9Lane}
+use Rattle.lanes.specs.Lanes.{lanesOf, listed, flags, arithLanes, shiftLanes, clipLanes, add9Lanes}
 use Rattle.words.specs.Fields.{fieldsOf}
 use Rattle.words.specs.Table.{decodeOf, decodeAt, rows}
 use Rattle.pieces.specs.State.{State, Sized, state}
@@ -39,7 +39,7 @@ module _ (ds rest r cs vc v : List ℕ) (c : ℕ) where
   unfolding tripleOf decodeOf decodeAt rows fieldsOf stepped counted addresses line startOf L.stepOf rowStart pairOf bankOf turnOf cellOf
   example5 side mask = refl
 
--- ---- 6 to 9, in all sixteen components: from $v0 and $v1 to $v2, with the flags in $vc0
+-- ---- 6 to 9 and wish 1, in all sixteen components: from $v0 and $v1 to $v2, with the flags in $vc0
 
 abbrev pub all : ℕ → List ℕ
 all x = replicate 16 x
@@ -99,7 +99,12 @@ module _ (ds a r c vc v : List ℕ) (old was : ℕ) where
     unfolding tripleOf decodeOf decodeAt rows fieldsOf stepped counted add9Lanes lanesOf listed flags add9Lane saturated sext low clip
     example9 = worked (lit< tt) refl
 
--- there are such states, whatever the sixteen bytes of $v0 and of $v1 are; the last two are for the sources of 6 to 8 and of 9
+    -- document 02, wish 1: 5 clipped to 5 and 9 gives 5 with sign 1. Sources 1 and 2 are both $v0
+    pub wish1 : Gives 0xa4100010 (all 5) (all 9) 5 0xffff 0
+    unfolding tripleOf decodeOf decodeAt rows fieldsOf stepped counted clipLanes lanesOf listed flags clipLane clipBetween sext low
+    wish1 = worked (lit< tt) refl
+
+-- there are such states, whatever the sixteen bytes of $v0 and of $v1 are; the last two are for the sources of 6 to 8 and wish 1, and of 9
 module _ (xs ys : List ℕ) where
   abbrev pub zeroed : State
   zeroed = before (replicate 8192 0) (replicate 32 0) (replicate 32 0) (replicate 4 0) (replicate 3 0) (replicate 464 0) 0 0 xs ys

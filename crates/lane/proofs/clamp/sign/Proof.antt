@@ -8,6 +8,5 @@ pub sign-spec : {M : Type 1} → statement M
 sign-spec =
     tie.close
     (tie.spec
-    (λ c κs. search needs) (λ c κs. search needs)
-    (λ c. let s = c .before .before in let f = s .fits in
-    rw (c .before .either .ensures, c .either2 .ensures) (clip-sign _ _ _ (f .x .fits) (f .y .fits) (f .z .fits) (s .pre))))
+    (λ c κs. search needs)
+    (λ c. let f = c .before .fits in rw (c .either .ensures) (clip-sign _ _ _ (f .x .fits) (f .y .fits) (f .z .fits))))

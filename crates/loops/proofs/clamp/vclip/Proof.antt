@@ -10,5 +10,5 @@ unfolding clipUnpacked
 vclip-spec =
     tie.close
     (tie.spec
-    (λ c κs. search needs) (λ c κs. c .bytes .ensures)
+    (λ c κs. search needs) (λ c κs. search needs)
     (λ c. let e = c .before .bytes .ensures in made _ e e (c .signs .ensures)))
