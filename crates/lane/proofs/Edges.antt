@@ -157,22 +157,14 @@ moved-sign p q r = pick (ltb q r)
     pick false = refl
 
 module _ (x y z : ℕ) (hx : x < 256) (hy : y < 256) (hz : z < 256) where
-  abbrev p : ℕ
-  p = bitXor x 128
-
-  abbrev q : ℕ
-  q = bitXor y 128
-
-  abbrev r : ℕ
-  r = bitXor z 128
-
   -- where the flag is clear, by flipped bytes
-  pub clip-flipped : clipLane x y z .sign ≡ not (ltb q p && ltb p r)
-  clip-flipped = rw (clip-clear x y z, sext-off x hx, sext-off y hy, sext-off z hz, ltZ-off q p, ltZ-off p r)
+  pub clip-flipped : clipLane x y z .sign ≡ not (ltb (bitXor y 128) (bitXor x 128) && ltb (bitXor x 128) (bitXor z 128))
+  clip-flipped = rw (clip-clear x y z, sext-off x hx, sext-off y hy, sext-off z hz) (simp ltZ-off)
 
   -- the flag is set exactly where it was set before, or source 1 is one of the ends
   pub clip-on-end : clipLane x y z .sign ≡ (movedLane x y z .sign || (eqb x y || eqb x z))
   unfolding movedLane
   clip-on-end =
+      let p = bitXor x 128 in let q = bitXor y 128 in let r = bitXor z 128 in
       rw (clip-flipped, sext-off x hx, sext-off y hy, sext-off z hz, ltZ-off q r, moved-sign p q r)
       (not-inside p q r ∙ rw (same-flip x y hx hy, same-flip x z hx hz))
