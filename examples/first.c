@@ -7,9 +7,9 @@ int main(void)
 {
     static struct vp1_state s; /* the data store and the registers, all zeros */
     const uint32_t words[] = {
-        0xcc000000, 0, 0, /* setlo $a0 0x0000 */
-        0xcd000000, 0, 0, /* sethi $a0 0x0000: limit 0, stride code 0 */
-        0xd9080007, 0, 0, /* ldvv $v1 $a0 0: each triple is a word, a side index and a side mask word */
+        0xcc000000, 0, 0, /* setlo $a0 0x0 */
+        0xcd000000, 0, 0, /* sethi $a0 0x0: limit 0, stride code 0 */
+        0xd9080007, 0, 0, /* ldvv $v1 $a0 0x0: each triple is a word, a side index and a side mask word */
     };
     uint32_t steps, answer;
     struct vp1_counts counts;

@@ -1,5 +1,6 @@
 /* What the libraries of VP1's address and vector units share: the six pieces of memory that the caller lends, what the caller owes, the numbers
-   of the answers; and struct vp1_state, which holds the six pieces together. It declares no call: vp1.h and vp1_order.h do, and include it. */
+   of the answers; and struct vp1_state, which holds the six pieces together. It declares no call: vp1.h, vp1_order.h and vp1_names.h do, and
+   include it. */
 #ifndef VP1_STATE_H
 #define VP1_STATE_H
 
@@ -27,7 +28,11 @@
      VP1_SIDE_MASK     the instruction is vcmpad, and the side mask word is above 0x1ffff
      VP1_LENGTHS       a piece has another length; tested first
      VP1_RAGGED        list call: the number of words is no multiple of 3; tested next
-     VP1_SPENT         list call: the budget is spent, and the list is not finished; tested before each triple */
+     VP1_SPENT         list call: the budget is spent, and the list is not finished; tested before each triple
+     VP1_UNNAMED       reading: all up to the text's first space or line feed is no instruction's name
+     VP1_AMISS         reading: anything else is amiss
+     VP1_UNENDED       reading: the text's only line feed is not its last byte; tested first
+     VP1_SHORT         writing: the output is shorter than the whole line */
 enum {
     VP1_DONE = 0,
     VP1_FOREIGN = 1,
@@ -36,7 +41,11 @@ enum {
     VP1_SIDE_MASK = 4,
     VP1_LENGTHS = 5,
     VP1_RAGGED = 6,
-    VP1_SPENT = 7
+    VP1_SPENT = 7,
+    VP1_UNNAMED = 8,
+    VP1_AMISS = 9,
+    VP1_UNENDED = 10,
+    VP1_SHORT = 11
 };
 
 /* The right numbers of elements, by name. */

@@ -1,5 +1,6 @@
 /* listing.c - reads a listing from standard input, runs it on the second simulator
  * and prints its lines, by docs/LISTING.md. */
+#include "lines.h"
 #include "vp1_second.h"
 
 #include <inttypes.h>
@@ -137,6 +138,16 @@ static void print_refused(uint32_t answer)
     printf("refused, %" PRIu32 " (%s)", answer, reasons[answer]);
 }
 
+/* The word's line. A word whose opcode is refused has none. */
+static void print_line(uint32_t word)
+{
+    uint8_t text[SECOND_LINE];
+    uint32_t length;
+
+    if (second_write_line(word, text, sizeof text, &length) == 0)
+        printf("%.*s: ", (int)length - 1, (const char *)text);
+}
+
 static void print_place(uint32_t place)
 {
     static const struct { uint32_t first, halves; const char *name, *even, *odd; } kinds[] = {
@@ -223,6 +234,7 @@ static int step(size_t i, uint64_t *cells)
     count_cells(t);
     uint32_t answer = second_step(t.word, t.side, t.mask, STATE, &entered);
     printf("%zu: %08" PRIx32 " %" PRIx32 " %" PRIx32 ": ", i + 1, t.word, t.side, t.mask);
+    print_line(t.word);
     if (answer != SECOND_DONE) {
         print_refused(answer);
     } else {

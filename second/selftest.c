@@ -1,8 +1,10 @@
 /* selftest.c - checks the second simulator against document 01's ten examples, cases
  * of vclip made by hand, the four lines of the lab program, and, for every address and
  * code, against the address lists written out and counted; and the places and
- * exchanges against cases made by hand from the table. Prints nothing and exits 0 if
- * all is well. */
+ * exchanges against cases made by hand from the table; and the lines of names, in
+ * selftest_lines.c. Prints nothing and exits 0 if all is well. */
+#include "selftest.h"
+
 #include "vp1_second.h"
 
 #include <stdio.h>
@@ -782,5 +784,6 @@ int main(void)
     exchanges_of_vector_registers();
     exchanges_of_accesses();
     refusals_of_exchanges();
+    failures += selftest_lines();
     return failures == 0 ? 0 : 1;
 }

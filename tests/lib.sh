@@ -28,12 +28,11 @@ need_cxx() {
     esac
 }
 
-# PROGRAM FILE..: builds an x86-64 program over the two proved libraries, which are to be there. Words for the compiler, as -D, may stand among the
-# files.
+# PROGRAM FILE..: builds an x86-64 program over the proved libraries that are there. Words for the compiler, as -D, may stand among the files.
 build_program() {
     need_cc
     "$cc" -std=c11 -O2 -Wall -Wextra -Wpedantic -Werror -static -Iinclude -Isecond -o "$@" \
-        target/staticlib/libvp1.a target/staticlib/libvp1_order.a
+        target/staticlib/lib*.a
 }
 
 # Sets tools, the toolchain's folder for this machine, and emulator, its emulator of x86-64: nothing where the toolchain has none, as on x86-64.
@@ -69,12 +68,12 @@ need_second() {
     fi
 }
 
-# FOLDER: sets engine to where the second simulator's object files for x86-64 are, vp1_second.o and places.o: the folder x86-64 of VP1_SECOND or of
+# FOLDER: sets engine to where the second program's object files for x86-64 are, vp1_second.o, places.o and lines.o: the folder x86-64 of VP1_SECOND or of
 # FOLDER; on x86-64 that folder itself, where need_second has them built too.
 need_engine() {
     engine=${VP1_SECOND:-$1}
     [ "$(uname -m)" = x86_64 ] || engine=$engine/x86-64
-    [ ! -f "$engine/places.o" ] || return 0
+    [ ! -f "$engine/lines.o" ] || return 0
     [ -z "${VP1_SECOND-}" ] || {
         echo "VP1_SECOND: second/build has not filled $engine" >&2
         return 1

@@ -1,12 +1,15 @@
 /* The functions over struct vp1_state against the plain calls: from the same states and inputs they must leave the same answers, counts and
-   bytes. Good C and good C++. With ORDER_FIRST the headers are included the other way round.
+   bytes. Good C and good C++. With ORDER_FIRST the headers are included the other way round. A line is written and read too, so that all three
+   libraries are in one program.
    Prints nothing and exits 0 when all is well; else says which function differed first and exits 1. */
 #ifdef ORDER_FIRST
+#include "vp1_names.h"
 #include "vp1_order.h"
 #include "vp1.h"
 #else
 #include "vp1.h"
 #include "vp1_order.h"
+#include "vp1_names.h"
 #endif
 
 #include <assert.h>
@@ -142,6 +145,19 @@ static void by_hand(void)
     hold(vp1_state_run(&s, list, 8, 3, &steps, &k) == VP1_RAGGED && steps == 0 && k.accesses == 0, "a ragged list");
 }
 
+/* The line of a word, there and back. */
+static void line_by_hand(void)
+{
+    const uint8_t expected[] = "setlo $a3 0x1234\n";
+    uint8_t line[VP1_LINE];
+    uint32_t length = 99, word = 99;
+    hold(vp1_write_line(0xcc181234, line, VP1_LINE, &length) == VP1_DONE && length == 17, "a line of 17 bytes");
+    hold(memcmp(line, expected, 17) == 0, "the line of 0xcc181234");
+    hold(vp1_read_line(line, length, &word) == VP1_DONE && word == 0xcc181234, "the word of that line");
+    hold(vp1_write_line(0xcc181234, line, 16, &length) == VP1_SHORT && length == 0, "an output that is too short");
+    hold(vp1_read_line(line, 16, &word) == VP1_UNENDED && word == 0, "a line without its feed");
+}
+
 int main(void)
 {
     for (int turn = 0; turn < 8000; turn++) {
@@ -158,5 +174,6 @@ int main(void)
             return EXIT_FAILURE;
         }
     by_hand();
+    line_by_hand();
     return EXIT_SUCCESS;
 }

@@ -1,6 +1,6 @@
 // How many cells of each bank the steps enter.
 ghost use Prim.Native.Nat.{_<_};
-use crate::names::decimal;
+use crate::phrases::decimal;
 use text::print::text;
 
 // The number of the first place of the store: a cell is two of them, a bank 256 cells.

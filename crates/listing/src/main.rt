@@ -1,6 +1,6 @@
 // Runs a listing step by step, and asks of each two neighbours whether they may be swapped: docs/LISTING.md says what is read and written.
 mod cells;
-mod names;
+mod phrases;
 mod report;
 mod scan;
 mod steps;

@@ -112,13 +112,6 @@ fn digit(s: Reading, d: u32) -> Reading {
     after
 }
 
-fn lower(b: u8) -> u8 {
-    match b {
-        b'A'..=b'F' => b + 32,
-        _ => b,
-    }
-}
-
 // A byte that neither separates numbers nor starts a comment.
 fn glyph(s: Reading, b: u8) -> Reading {
     if s.comment {
@@ -127,7 +120,7 @@ fn glyph(s: Reading, b: u8) -> Reading {
     if b == b'x' {
         return prefix(s);
     }
-    digit(s, digits::value(lower(b)))
+    digit(s, digits::value(b))
 }
 
 fn byte(s: Reading, b: u8, words: &mut [u32; 768]) -> Reading {

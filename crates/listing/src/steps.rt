@@ -1,7 +1,7 @@
 // The run of a listing, from a state of zeros, and the lines that it writes.
 ghost use Prim.Native.Nat.{_≤_, _<_};
 use crate::cells;
-use crate::names;
+use crate::phrases;
 use swap::Swap;
 use swap::Verdict;
 use text::print;
@@ -32,21 +32,35 @@ fn triple_at(words: &[u32; 768], i: usize) -> Triple
     }
 }
 
+// The word's line, without its line feed: a word that is refused with 1 or 2 has none.
+fn print_line(word: u32) {
+    let mut out = [0u8; 64];
+    let written = names::write_line(word, &mut out);
+    let n = io::count(written.length as isize, &out);
+    if n == 0 {
+        return;
+    }
+    let end = n - 1;
+    text(&out[0..end]);
+    text(b": ");
+}
+
 fn print_triple(i: usize, t: Triple)
     requires { ⌜ i < 256 ⌝ }
 {
-    names::decimal(i as u64 + 1);
+    phrases::decimal(i as u64 + 1);
     text(b": ");
     io::print_hex(libc::STDOUT_FILENO, t.word as u64, 8);
     text(b" ");
     print::item(t.side as u64);
     print::number(t.mask as u64);
     text(b": ");
+    print_line(t.word);
 }
 
 fn print_clash(place: u32, writer: u32) {
     text(b"clash at ");
-    names::place(place);
+    phrases::place(place);
     if writer == 1 {
         text(b", which the first writes");
     } else {
@@ -66,7 +80,7 @@ fn print_swap(s: Swap) {
     let end = s.end;
     let answer = terms::number(end);
     if answer != 0 {
-        names::refused(answer);
+        phrases::refused(answer);
         return;
     }
     let verdict = s.verdict;
@@ -76,10 +90,10 @@ fn print_swap(s: Swap) {
 // The answer of a step, with what was said of it and the next one, if there is one.
 fn print_answer(answer: u32, cells: u64, followed: bool, s: Swap) {
     if answer != 0 {
-        names::refused(answer);
+        phrases::refused(answer);
     } else {
         text(b"done, ");
-        names::counted(cells, b" cell");
+        phrases::counted(cells, b" cell");
         if followed {
             print_swap(s);
         }
@@ -139,9 +153,9 @@ fn one_step(
 }
 
 fn print_end(total: Total, banks: &[u32; 16]) {
-    names::counted(total.steps as u64, b" step");
+    phrases::counted(total.steps as u64, b" step");
     text(b", ");
-    names::counted(total.cells, b" cell");
+    phrases::counted(total.cells, b" cell");
     text(b"\n");
     cells::print_banks(banks);
 }

@@ -14,7 +14,7 @@ use Rattle.terms.specs.declared.End.the-variants as E
 
 -- the answers in the order of their numbers
 ends : List End
-ends = E.Done ∷ E.Refused R.Foreign ∷ E.Refused R.Undocumented ∷ E.Refused R.SideIndex ∷ E.Refused R.SideMask ∷ E.Lengths ∷ E.Ragged ∷ E.Spent ∷ []
+ends = E.Done ∷ E.Refused R.Foreign ∷ E.Refused R.Undocumented ∷ E.Refused R.SideIndex ∷ E.Refused R.SideMask ∷ E.Lengths ∷ E.Ragged ∷ E.Spent ∷ E.Unnamed ∷ E.Amiss ∷ E.Unended ∷ E.Short ∷ []
 
 pub ended : ℕ → End
 ended n = getD ends n E.Done
@@ -29,6 +29,10 @@ back (E.Refused R.SideMask) = refl
 back E.Lengths = refl
 back E.Ragged = refl
 back E.Spent = refl
+back E.Unnamed = refl
+back E.Amiss = refl
+back E.Unended = refl
+back E.Short = refl
 
 -- their numbers tell the ends apart
 pub number-inj : (d e : End) → number d ≡ number e → d ≡ e
@@ -40,6 +44,10 @@ answered (E.Refused k) c = A.Refused k
 answered E.Lengths c = A.Done c
 answered E.Ragged c = A.Done c
 answered E.Spent c = A.Done c
+answered E.Unnamed c = A.Done c
+answered E.Amiss c = A.Done c
+answered E.Unended c = A.Done c
+answered E.Short c = A.Done c
 
 answer-back : (x : Answer) → answered (endOf x) (countsIn x) ≡ x
 unfolding answered

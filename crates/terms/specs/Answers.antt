@@ -1,4 +1,4 @@
--- Document 01's number of each answer. "Answer numbers".
+-- The number of each answer: document 01, "Answer numbers", and document 02's wishes.
 use Prim.Native.Nat.{ℕ}
 use Rattle.terms.specs.declared.Refusal.the-variants as R
 use Rattle.terms.specs.declared.End.{End}
@@ -20,3 +20,11 @@ number E.Lengths = 5
 number E.Ragged = 6
 -- "budget spent, list not finished"
 number E.Spent = 7
+-- wish 2: "an unknown name (all up to the first space or line feed)"
+number E.Unnamed = 8
+-- "anything else amiss"
+number E.Amiss = 9
+-- "unless the text's only line feed is its last byte"
+number E.Unended = 10
+-- "an output too short for the whole line"
+number E.Short = 11

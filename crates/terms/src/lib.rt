@@ -24,13 +24,18 @@ pub enum Refusal {
     SideMask,
 }
 
-// Why a call stopped: all is done, a triple was refused, a piece has another length, the words are no whole triples, the budget is spent.
+// Why a call stopped: all is done, a triple was refused, a piece has another length, the words are no whole triples, the budget is spent; of a line,
+// its name is none, something else is amiss, its line feed is not the last byte and the only one, the output is too short.
 pub enum End {
     Done,
     Refused(Refusal),
     Lengths,
     Ragged,
     Spent,
+    Unnamed,
+    Amiss,
+    Unended,
+    Short,
 }
 
 // What a step reports besides the state, and a run in total.
@@ -55,7 +60,7 @@ fn refused_number(k: Refusal) -> u32
     }
 }
 
-// Document 01's number of an answer.
+// The papers' number of an answer.
 pub fn number(e: End) -> u32
     ensures { λ n. ⌜ n ≡ number e ⌝ }
 {
@@ -65,6 +70,10 @@ pub fn number(e: End) -> u32
         End::Lengths => 5,
         End::Ragged => 6,
         End::Spent => 7,
+        End::Unnamed => 8,
+        End::Amiss => 9,
+        End::Unended => 10,
+        End::Short => 11,
     }
 }
 

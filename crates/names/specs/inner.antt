@@ -1,0 +1,3 @@
+-- How the code goes about it: nobody has to believe it.
+pub mod Scan
+pub mod Code
