@@ -1,17 +1,18 @@
-/* plot.c - draws the pictures of docs/PICTURES.md: the curve, or with the arguments
- * map CODE the map of a stride code. The banks are worked out here, by the address
- * unit's chapter. */
+/* plot.c - draws the pictures of docs/PICTURES.md: the curve; with the arguments map CODE
+ * the map of a stride code; with load WAY CODE ADDRESS a load (plot_load.c). Addresses
+ * and banks are worked out here, by the address unit's chapter and document 01. */
+#include "plot.h"
+
 #include <stdio.h>
+#include <stdlib.h>
 #include <string.h>
 
-enum { LANES = 16, BANKS = 16, CODES = 4 };
-
-static const char *const strides[CODES] = { "0x10", "0x20", "0x40", "0x80" };
+const char *const plot_strides[CODES] = { "0x10", "0x20", "0x40", "0x80" };
 
 /* ---- The data store ---- */
 
-/* The chapter's address_xlat, as far as the bank. */
-static int bank_of(int addr, int code)
+/* The chapter compares the code with 0x40 and 0x80; document 01 takes it as 2 and 3. */
+int plot_bank(int addr, int code)
 {
     int bank = addr & 0xf;
 
@@ -24,22 +25,38 @@ static int bank_of(int addr, int code)
     return bank & 0xf;
 }
 
-/* The chapter's addresses_vertical, at the address column; then a flag for each bank. */
+int plot_addresses(enum way way, int code, int addr, int addrs[LANES])
+{
+    int n = way == SCALAR ? 4 : LANES, shift = way == VERTICAL ? 4 + code : 0;
+    int first = addr & 0x1fff & ~((n - 1) << shift); /* n is a power of two: these are the bits that run */
+
+    for (int idx = 0; idx < n; idx++)
+        addrs[idx] = first | idx << shift;
+    return n;
+}
+
+/* How many banks the vertical load at the address column enters: a flag for each bank. */
 static int count_of(int code, int column)
 {
     char entered[BANKS] = { 0 };
-    int addr = column & 0x1fff & ~(0xf << (4 + code)), count = 0;
+    int addrs[LANES], n = plot_addresses(VERTICAL, code, column, addrs), count = 0;
 
-    for (int idx = 0; idx < LANES; idx++)
-        entered[bank_of(addr | idx << (4 + code), code)] = 1;
+    for (int i = 0; i < n; i++)
+        entered[plot_bank(addrs[i], code)] = 1;
     for (int bank = 0; bank < BANKS; bank++)
         count += entered[bank];
     return count;
 }
 
-/* ---- What both pictures share ---- */
+/* ---- What all share ---- */
 
-static void begin(int width, int height, const char *name)
+/* From dark to light, so that they can be told apart without colours. */
+static const char *const colours[BANKS] = {
+    "#440154", "#481a6c", "#472f7d", "#414487", "#39568c", "#31688e", "#2a788e", "#23888e",
+    "#1f988b", "#22a884", "#35b779", "#54c568", "#7ad151", "#a5db36", "#d2e21b", "#fde725"
+};
+
+void plot_begin(int width, int height, const char *name)
 {
     printf("<svg xmlns=\"http://www.w3.org/2000/svg\" viewBox=\"0 0 %d %d\" width=\"%d\" height=\"%d\""
            " role=\"img\" font-family=\"sans-serif\" font-size=\"15\">\n", width, height, width, height);
@@ -48,7 +65,17 @@ static void begin(int width, int height, const char *name)
     printf("<text x=\"%d\" y=\"38\" text-anchor=\"middle\" font-size=\"20\">%s</text>\n", width / 2, name);
 }
 
-static void end(void) { printf("</svg>\n"); }
+void plot_end(void) { printf("</svg>\n"); }
+
+void plot_rect(int x, int y, int side, int bank)
+{
+    printf("<rect x=\"%d\" y=\"%d\" width=\"%d\" height=\"%d\" fill=\"%s\"/>\n", x, y, side, side, colours[bank]);
+}
+
+void plot_ink(int x, int y, int bank)
+{
+    printf("<text x=\"%d\" y=\"%d\" fill=\"%s\">%d</text>\n", x, y, bank < 7 ? "#ffffff" : "#000000", bank);
+}
 
 static void number(int x, int y, int n) { printf("<text x=\"%d\" y=\"%d\">%d</text>\n", x, y, n); }
 
@@ -108,44 +135,38 @@ static void series(int code)
         circle(column_x(column), count_y(count_of(code, column)), code);
     printf("<path d=\"M750 %dH830\"/>\n", legend);
     circle(790, legend, code);
-    printf("</g>\n<text x=\"850\" y=\"%d\">stride %s (code %d)</text>\n", legend + 5, strides[code], code);
+    printf("</g>\n<text x=\"850\" y=\"%d\">stride %s (code %d)</text>\n", legend + 5, plot_strides[code], code);
 }
 
 static void curve(void)
 {
-    begin(1020, 500, "How many banks a vertical load enters, by the column it starts in");
+    plot_begin(1020, 500, "How many banks a vertical load enters, by the column it starts in");
     axes();
     for (int code = 0; code < CODES; code++)
         series(code);
     printf("<text x=\"750\" y=\"290\">The lines of 0x20, 0x40 and 0x80</text>\n"
            "<text x=\"750\" y=\"312\">lie on each other: each of these</text>\n"
            "<text x=\"750\" y=\"334\">loads enters all 16 banks.</text>\n");
-    end();
+    plot_end();
 }
 
 /* ---- The map ---- */
 
-static const char *const colours[BANKS] = {
-    "#440154", "#481a6c", "#472f7d", "#414487", "#39568c", "#31688e", "#2a788e", "#23888e",
-    "#1f988b", "#22a884", "#35b779", "#54c568", "#7ad151", "#a5db36", "#d2e21b", "#fde725"
-};
-
-static void cell(int addr, int code)
+static void square(int addr, int code)
 {
-    int row = addr / 16, column = addr % 16, bank = bank_of(addr, code);
+    int row = addr / 16, column = addr % 16, bank = plot_bank(addr, code);
 
-    printf("<rect x=\"%d\" y=\"%d\" width=\"38\" height=\"38\" fill=\"%s\"/>\n",
-           column_x(column) - 19, 111 + 40 * row, colours[bank]);
-    printf("<text x=\"%d\" y=\"%d\" fill=\"%s\">%d</text>\n",
-           column_x(column), 135 + 40 * row, bank < 7 ? "#ffffff" : "#000000", bank);
+    plot_rect(column_x(column) - 19, 111 + 40 * row, 38, bank);
+    plot_ink(column_x(column), 135 + 40 * row, bank);
 }
 
 static void map(int code)
 {
     char name[80];
 
-    snprintf(name, sizeof name, "Banks of addresses 0 to 255 under stride code %d (%s bytes)", code, strides[code]);
-    begin(800, 800, name);
+    snprintf(name, sizeof name, "Banks of addresses 0 to 255 under stride code %d (%s bytes)",
+             code, plot_strides[code]);
+    plot_begin(800, 800, name);
     printf("<text x=\"400\" y=\"74\" text-anchor=\"middle\" font-size=\"16\">column (address mod 16)</text>\n"
            "<text x=\"30\" y=\"430\" transform=\"rotate(-90 30 430)\" text-anchor=\"middle\" font-size=\"16\">"
            "row (address / 16)</text>\n");
@@ -154,21 +175,63 @@ static void map(int code)
     for (int addr = 0; addr < 256; addr++) {
         if (addr % 16 == 0)
             number(60, 135 + 40 * (addr / 16), addr / 16);
-        cell(addr, code);
+        square(addr, code);
     }
     printf("</g>\n<text x=\"400\" y=\"780\" text-anchor=\"middle\">"
-           "A cell is one address; the number and the colour are its bank.</text>\n");
-    end();
+           "A square is one address; the number and the colour are its bank.</text>\n");
+    plot_end();
+}
+
+/* ---- The arguments ---- */
+
+/* The stride code that the argument is, or -1. */
+static int code_of(const char *arg) { return strlen(arg) == 1 && strspn(arg, "0123") == 1 ? arg[0] - '0' : -1; }
+
+/* The way that the argument is, or -1. */
+static int way_of(const char *arg)
+{
+    static const char *const ways[WAYS] = { "horizontal", "vertical", "scalar" };
+    int way = WAYS - 1;
+
+    while (way >= 0 && strcmp(arg, ways[way]) != 0)
+        way--;
+    return way;
+}
+
+/* The address that the argument is, or -1. strtol alone would not do: it takes blanks,
+ * a sign and 0X too. */
+static int address_of(const char *arg)
+{
+    const char *digits = strncmp(arg, "0x", 2) == 0 ? arg + 2 : arg;
+    size_t length = strlen(digits);
+    long addr;
+
+    if (length < 1 || length > 4 || strspn(digits, "0123456789abcdefABCDEF") != length)
+        return -1;
+    addr = strtol(digits, NULL, 16);
+    return addr <= 0x1fff ? (int)addr : -1;
+}
+
+/* Draws the load that the three arguments name; returns 0 where they name none. */
+static int load(char **args)
+{
+    int way = way_of(args[0]), code = code_of(args[1]), addr = address_of(args[2]);
+
+    if (way < 0 || code < 0 || addr < 0)
+        return 0;
+    plot_load((enum way)way, code, addr);
+    return 1;
 }
 
 int main(int argc, char **argv)
 {
     if (argc == 1) {
         curve();
-    } else if (argc == 3 && strcmp(argv[1], "map") == 0 && strlen(argv[2]) == 1 && strspn(argv[2], "0123") == 1) {
-        map(argv[2][0] - '0');
-    } else {
-        fprintf(stderr, "usage: plot [map CODE], CODE a stride code from 0 to 3\n");
+    } else if (argc == 3 && strcmp(argv[1], "map") == 0 && code_of(argv[2]) >= 0) {
+        map(code_of(argv[2]));
+    } else if (!(argc == 5 && strcmp(argv[1], "load") == 0 && load(argv + 2))) {
+        fprintf(stderr, "usage: plot [map CODE | load WAY CODE ADDRESS]: CODE 0 to 3,"
+                        " WAY horizontal, vertical or scalar, ADDRESS 0x0 to 0x1fff\n");
         return 2;
     }
     return fflush(stdout) == 0 && !ferror(stdout) ? 0 : 1;

@@ -1,6 +1,6 @@
 # What the scripts share, to be read by `. tests/lib.sh` from sh or bash: what they install, which compiler makes programs for the proved libraries,
 # how those programs are built and run, and where second/ is built. The libraries and the proved programs are for x86-64. The names here end up in
-# the script that reads it: cc, cxx, tools, emulator, second, engine.
+# the script that reads it: cc, cxx, kit, tools, emulator, second, engine.
 # shellcheck shell=sh
 
 # COMMAND PACKAGE..: installs the packages by apt-get where the command is missing.
@@ -35,9 +35,10 @@ build_program() {
         target/staticlib/lib*.a
 }
 
-# Sets tools, the toolchain's folder for this machine, and emulator, its emulator of x86-64: nothing where the toolchain has none, as on x86-64.
+# Sets kit, the toolchain's folder; tools, what it has for this machine; and emulator, its emulator of x86-64: nothing where it has none, as on x86-64.
 find_tools() {
-    tools=$(dirname "$(dirname "$(rt doc)")")/on/$(uname -m)/toolchain
+    kit=$(dirname "$(dirname "$(rt doc)")")
+    tools=$kit/on/$(uname -m)/toolchain
     emulator=$tools/bin/qemu-x86_64
     [ -x "$emulator" ] || emulator=''
 }

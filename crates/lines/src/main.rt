@@ -1,15 +1,13 @@
 // Turns instruction words into lines, or lines into words: docs/NAMES.md says what is read and written.
-mod find;
 mod report;
-mod squeeze;
 mod to_lines;
 mod to_words;
 mod walk;
 
 ghost use Rattle.io.specs.Counts.{Counts};
-use crate::find::same;
-use libc::STDERR_FILENO;
 use libc::STDIN_FILENO;
+use text::find::same;
+use text::say::say;
 
 // What is asked for: lines of words, or words of lines.
 pub enum Job {
@@ -68,10 +66,7 @@ fn main() {
     let mut file = io::buffer();
     let n = file_name(&mut file);
     let Asked::Known(job) = first_word() else {
-        io::write_all(
-            STDERR_FILENO,
-            b"usage: lines names FILE, or lines words FILE\n",
-        );
+        say(b"usage: lines names FILE, or lines words FILE\n");
         return;
     };
     run(job, &file[..n]);

@@ -14,6 +14,7 @@ use crate::line::copy;
 use crate::line::spelt;
 use crate::scan::heading;
 use crate::scan::one_feed;
+pub use crate::table::form_of; // for who shows the fields that a line comes from
 use crate::table::name_of;
 use crate::table::next_named;
 use terms::End;

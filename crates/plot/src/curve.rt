@@ -1,5 +1,6 @@
 // The curve: how many banks a vertical load enters, by the column that it starts in, a line for each stride.
 ghost use Prim.Native.Nat.{_≤_, _<_};
+use crate::access;
 use crate::svg;
 use crate::svg::put;
 use terms::Way;
@@ -9,9 +10,7 @@ use text::print::text;
 fn bit_at(code: usize, column: usize, i: usize) -> u32
     requires { ⌜ (code < 4) × (column < 16) × (i < 16) ⌝ }
 {
-    let start = banks::start(Way::Vertical, code, column);
-    let step = banks::step(Way::Vertical, code);
-    1 << banks::bank(code, start + i * step)
+    1 << banks::bank(code, access::address(Way::Vertical, code, column, i))
 }
 
 // One for a bank that was not met before.

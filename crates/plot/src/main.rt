@@ -1,42 +1,49 @@
-// Draws on standard output, as SVG, the curve of banks entered or the map of a stride code: docs/PICTURES.md fixes every byte.
+// Draws on standard output, as SVG, the curve of banks entered, the map of a stride code or a load: docs/PICTURES.md fixes every byte.
+mod access;
+mod args;
 mod curve;
+mod load;
 mod map;
 mod svg;
 
+use crate::args::Asked;
 use libc::STDERR_FILENO;
-use text::digits;
 
 fn usage() {
     io::write_all(
         STDERR_FILENO,
-        b"usage: plot [map CODE], CODE a stride code from 0 to 3\n",
+        b"usage: plot [map CODE | load WAY CODE ADDRESS]: CODE 0 to 3, WAY horizontal, vertical or scalar, ADDRESS 0x0 to 0x1fff\n",
     );
 }
 
-fn draw_map(code: usize) {
-    if code < 4 {
+fn draw_map() {
+    let code = args::code(2);
+    if args::is(1, b"map") && code < 4 {
         map::picture(code);
     } else {
         usage();
     }
 }
 
-// The code that the arguments ask for, if they are `map` and a digit, or a number above 3.
-fn asked_code() -> usize {
-    let mut word = [0u8; 4];
-    let mut digit = [0u8; 2];
-    let n = os::arg(1, &mut word);
-    let k = os::arg(2, &mut digit);
-    if n == 3 && word[0] == b'm' && word[1] == b'a' && word[2] == b'p' && k == 1 {
-        return digits::value(digit[0]) as usize;
+fn draw_load() {
+    let Asked::Known(way) = args::way(2) else {
+        usage();
+        return;
+    };
+    let code = args::code(3);
+    let addr = args::address(4);
+    if args::is(1, b"load") && code < 4 && addr < args::NOWHERE {
+        load::picture(way, code, addr);
+    } else {
+        usage();
     }
-    16
 }
 
 fn main() {
     match os::arg_count() {
         0 | 1 => curve::picture(),
-        3 => draw_map(asked_code()),
+        3 => draw_map(),
+        5 => draw_load(),
         _ => usage(),
     }
 }

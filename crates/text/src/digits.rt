@@ -1,4 +1,10 @@
-// The hexadecimal digits.
+// The value of a digit, and what the number of a text can be.
+
+// A text's number, where it is one.
+pub enum Number {
+    Is(u32),
+    Nothing,
+}
 
 // A digit's number, in either case, or 16.
 pub fn value(b: u8) -> u32 {

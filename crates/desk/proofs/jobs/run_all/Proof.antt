@@ -1,0 +1,23 @@
+-- `desk::jobs::run_all` is safe and ends.
+use Prim.Native.Nat.{_-_}
+use borrow.Author.Needs.{needs}
+use Rattle.desk.proofs.jobs.run_all.Statement.{statement}
+use Rattle.desk.proofs.jobs.run_all.Tie as tie
+
+abbrev Inv-loop : tie.InvT-loop
+Inv-loop _ _ _ _ _ _ _ _ = Unit {0}
+
+abbrev μ-loop : tie.MeasureT-loop
+μ-loop _ _ _ _ _ i-end _ i = i-end - i
+
+pub run-all-spec : {M : Type 1} → statement M
+run-all-spec = tie.close (tie.spec Inv-loop μ-loop
+    (λ c κs. search needs)
+    (λ c. search needs)
+    (λ c. search needs)
+    (λ c κs. search needs)
+    (λ c κs. search needs)
+    (λ c. search needs)
+    (λ c. search needs)
+    (λ c. search needs)
+    (λ c. search needs))

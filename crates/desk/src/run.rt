@@ -1,0 +1,82 @@
+// What is written of a listing that is run: what its steps did, and what they left.
+use crate::asked::Options;
+use crate::lines;
+use crate::pages::Found;
+use crate::steps;
+use crate::steps::Total;
+use orders::Order;
+use shown::cells::print_banks;
+use shown::figures;
+use shown::phrases;
+use shown::registers::registers;
+use shown::subjects::subject;
+use text::print::text;
+
+// What the last part says of the run itself.
+fn print_total(total: Total, banks: &[u32; 16]) {
+    phrases::answer(total.answer);
+    figures::line(b"steps ", total.steps as u64);
+    figures::line(b"cells ", total.cells);
+    print_banks(banks);
+}
+
+// What a line asks to be shown, if it does.
+fn show(line: &[u8], ds: &[u8], a: &[u32], r: &[u32], c: &[u32], vc: &[u32], v: &[u8]) {
+    let o = orders::read::order(line);
+    if let Order::Show(s) = o {
+        subject(s, ds, a, r, c, vc, v);
+    }
+}
+
+// What the .show lines of a listing ask for. It is gone over again, so that they need not be put down.
+fn shows(text: &[u8], ds: &[u8], a: &[u32], r: &[u32], c: &[u32], vc: &[u32], v: &[u8]) {
+    let mut room = io::large_buffer();
+    let mut at = 0;
+    while at < text.len() {
+        let l = lines::line(text, at, &mut room);
+        let n = l.length;
+        show(&room[..n], ds, a, r, c, vc, v);
+        at = l.next;
+    }
+}
+
+// The status of an answer.
+fn status(answer: u32) -> u32 {
+    if answer == 0 { 0 } else { 1 }
+}
+
+fn heading(file: &[u8]) {
+    text(b"== ");
+    text(file);
+    text(b"\n");
+}
+
+// A listing without a fault, whose start is set: its steps, and the last part. Where there are several, its name stands above.
+pub fn run(
+    o: Options,
+    many: bool,
+    f: Found,
+    file: &[u8],
+    source: &[u8],
+    words: &[u32; 3072],
+    ds: &mut [u8; 8192],
+    a: &mut [u32; 32],
+    r: &mut [u32; 32],
+    c: &mut [u32; 4],
+    vc: &mut [u32; 4],
+    v: &mut [u8; 512],
+) -> u32 {
+    if many {
+        heading(file);
+    }
+    let loud = !o.quiet;
+    let mut banks = [0u32; 16];
+    let total = steps::run(f, loud, words, &mut banks, ds, a, r, c, vc, v);
+    if loud {
+        text(b"\n");
+    }
+    registers(o.all, a, r, c, vc, v);
+    shows(source, ds, a, r, c, vc, v);
+    print_total(total, &banks);
+    status(total.answer)
+}

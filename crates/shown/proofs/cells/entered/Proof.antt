@@ -1,0 +1,24 @@
+-- `shown::cells::entered` is safe and ends.
+use Prim.Native.Nat.{_-_}
+use borrow.Author.Needs.{needs}
+use Rattle.shown.proofs.cells.entered.Statement.{statement}
+use Rattle.shown.proofs.cells.entered.Tie as tie
+
+abbrev Inv-loop : tie.InvT-loop
+Inv-loop _ _ _ _ _ = Unit {0}
+
+abbrev μ-loop : tie.MeasureT-loop
+μ-loop _ _ _ _ i = 22 - i
+
+pub entered-spec : {M : Type 1} → statement M
+entered-spec = tie.close (tie.spec Inv-loop μ-loop
+    (λ c. search needs)
+    (λ c. search needs)
+    (λ c. search needs)
+    (λ c. search needs)
+    (λ c κs. search needs)
+    (λ c. search needs)
+    (λ c. search needs)
+    (λ c. search needs)
+    (λ c. search needs)
+    (λ c. search needs))

@@ -1,0 +1,22 @@
+-- `shown::changes::written` is safe and ends.
+use Prim.Native.Nat.{_-_}
+use borrow.Author.Needs.{needs}
+use Rattle.shown.proofs.changes.written.Statement.{statement}
+use Rattle.shown.proofs.changes.written.Tie as tie
+
+abbrev Inv-loop : tie.InvT-loop
+Inv-loop _ _ _ _ _ _ _ = Unit {0}
+
+abbrev μ-loop : tie.MeasureT-loop
+μ-loop _ _ _ _ _ _ i = 22 - i
+
+pub written-spec : {M : Type 1} → statement M
+written-spec = tie.close (tie.spec Inv-loop μ-loop
+    (λ c. search needs)
+    (λ c κs. search needs)
+    (λ c. search needs)
+    (λ c. search needs)
+    (λ c. search needs)
+    (λ c. search needs)
+    (λ c. search needs)
+    (λ c. search needs))
