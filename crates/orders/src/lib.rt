@@ -4,6 +4,7 @@ pub mod bytes; // bytes.rt: bytes and numbers that stand in a line
 mod compared; // compared.rt: the lines of EXPECTED that are compared
 pub mod cursor; // cursor.rt: the texts of a line, one after the other
 mod dots; // dots.rt: the lines that begin with a dot
+pub mod fields; // fields.rt: the parts of registers, with their bits
 mod parts; // parts.rt: a register's word and its parts
 pub mod read; // read.rt: what a line asks for
 mod register; // register.rt: which register a text is
@@ -26,6 +27,19 @@ pub enum Kind {
     R,
     C,
     Vc,
+}
+
+// The parts of these registers that have names; Whole is all bits, which have none.
+pub enum Field {
+    Addr,
+    Limit,
+    Stride,
+    Sign,
+    Zero,
+    End,
+    Signs,
+    Zeros,
+    Whole,
 }
 
 // Bits of the register n of a kind: those of mask have this value, in their places.

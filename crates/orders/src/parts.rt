@@ -1,33 +1,25 @@
 // What a register of 32 bits holds: a whole word, or parts of it with their names and values.
 use crate::Fault;
+use crate::Field;
 use crate::Kind;
 use crate::Part;
 use crate::Wanted;
 use crate::cursor::fault;
 use crate::cursor::next;
 use crate::cursor::text;
+use crate::fields::field_of;
+use crate::fields::most;
+use crate::fields::placed;
+use crate::fields::value_of;
 use crate::value::Value;
 use crate::value::stride;
 use crate::value::up_to;
 use text::digits::Number;
-use text::find::same;
 use text::number::number;
 
 pub enum Held {
     Is(Part),
     Wrong(Fault),
-}
-
-// A part: its lowest bit, the highest number that it holds, and what is expected of its value.
-struct Field {
-    low: u32,
-    most: u32,
-    wanted: Wanted,
-}
-
-enum Known {
-    Is(Field),
-    Nothing,
 }
 
 // Bits of a word, in their places: those of mask have this value.
@@ -41,59 +33,6 @@ enum One {
     Wrong(Fault),
 }
 
-fn named(low: u32, most: u32, wanted: Wanted) -> Known {
-    Known::Is(Field {
-        low: low,
-        most: most,
-        wanted: wanted,
-    })
-}
-
-fn of_a(name: &[u8]) -> Known {
-    if same(name, b"addr") {
-        return named(0, 0xffff, Wanted::Sixteen);
-    }
-    if same(name, b"limit") {
-        return named(16, 0x3fff, Wanted::Fourteen);
-    }
-    if same(name, b"stride") {
-        return named(30, 3, Wanted::Stride);
-    }
-    Known::Nothing
-}
-
-fn of_c(name: &[u8]) -> Known {
-    if same(name, b"sign") {
-        return named(8, 1, Wanted::Bit);
-    }
-    if same(name, b"zero") {
-        return named(9, 1, Wanted::Bit);
-    }
-    if same(name, b"end") {
-        return named(10, 1, Wanted::Bit);
-    }
-    Known::Nothing
-}
-
-fn of_vc(name: &[u8]) -> Known {
-    if same(name, b"signs") {
-        return named(0, 0xffff, Wanted::Sixteen);
-    }
-    if same(name, b"zeros") {
-        return named(16, 0xffff, Wanted::Sixteen);
-    }
-    Known::Nothing
-}
-
-fn field_of(kind: Kind, name: &[u8]) -> Known {
-    match kind {
-        Kind::A => of_a(name),
-        Kind::R => Known::Nothing,
-        Kind::C => of_c(name),
-        Kind::Vc => of_vc(name),
-    }
-}
-
 // What is expected where neither a word nor a part's name stands.
 fn word_of(kind: Kind) -> Wanted {
     match kind {
@@ -104,32 +43,25 @@ fn word_of(kind: Kind) -> Wanted {
     }
 }
 
-fn shifted(n: u32, low: u32) -> u32 {
-    if low < 32 {
-        return n << low;
-    }
-    0
-}
-
 // A part's value: of a stride its code is held.
-fn value_of(line: &[u8], at: usize, f: Field) -> Value {
-    let wanted = f.wanted;
-    match wanted {
-        Wanted::Stride => stride(line, at),
-        _ => up_to(line, at, f.most, wanted),
+fn value_at(line: &[u8], at: usize, f: Field) -> Value {
+    match f {
+        Field::Stride => stride(line, at),
+        _ => up_to(line, at, most(f), value_of(f)),
     }
 }
 
 // The part whose name stands at a place, with its value.
 fn part_at(line: &[u8], at: usize, kind: Kind) -> One {
-    let Known::Is(f) = field_of(kind, text(line, at)) else {
+    let f = field_of(kind, text(line, at));
+    if let Field::Whole = f {
         return One::Wrong(fault(line, at, word_of(kind)));
-    };
-    match value_of(line, next(line, at), f) {
+    }
+    match value_at(line, next(line, at), f) {
         Value::Wrong(w) => One::Wrong(w),
         Value::Is(n) => One::Is(Bits {
-            mask: shifted(f.most, f.low),
-            value: shifted(n, f.low),
+            mask: placed(f, most(f)),
+            value: placed(f, n),
         }),
     }
 }

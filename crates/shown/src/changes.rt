@@ -4,7 +4,6 @@ use crate::cells::address_of;
 use crate::figures::access;
 use crate::figures::bytes_change;
 use crate::parts;
-use crate::parts::Part;
 use crate::places::NOWHERE;
 use crate::places::Place;
 use crate::places::in_store;
@@ -15,6 +14,7 @@ use crate::registers::vector_named;
 use crate::registers::vector_of;
 use crate::registers::word_of;
 use crate::subjects::bytes_of;
+use orders::Field;
 use orders::Kind;
 use orders::Subject;
 use text::find::same;
@@ -133,7 +133,7 @@ pub fn note(
 
 // ---- after it: registers
 
-fn part_change(kind: Kind, n: usize, part: Part, old: u32, new: u32) {
+fn part_change(kind: Kind, n: usize, part: Field, old: u32, new: u32) {
     if !parts::differs(part, old, new) {
         return;
     }
@@ -145,34 +145,34 @@ fn part_change(kind: Kind, n: usize, part: Part, old: u32, new: u32) {
 
 fn address_change(n: usize, high: bool, old: u32, new: u32) {
     if high {
-        part_change(Kind::A, n, Part::Limit, old, new);
-        part_change(Kind::A, n, Part::Stride, old, new);
+        part_change(Kind::A, n, Field::Limit, old, new);
+        part_change(Kind::A, n, Field::Stride, old, new);
         return;
     }
-    part_change(Kind::A, n, Part::Addr, old, new);
+    part_change(Kind::A, n, Field::Addr, old, new);
 }
 
 fn flags_change(n: usize, high: bool, old: u32, new: u32) {
     if high {
-        part_change(Kind::C, n, Part::End, old, new);
+        part_change(Kind::C, n, Field::End, old, new);
         return;
     }
-    part_change(Kind::C, n, Part::Sign, old, new);
-    part_change(Kind::C, n, Part::Zero, old, new);
+    part_change(Kind::C, n, Field::Sign, old, new);
+    part_change(Kind::C, n, Field::Zero, old, new);
 }
 
 fn vector_flags_change(n: usize, high: bool, old: u32, new: u32) {
     if high {
-        part_change(Kind::Vc, n, Part::Zeros, old, new);
+        part_change(Kind::Vc, n, Field::Zeros, old, new);
         return;
     }
-    part_change(Kind::Vc, n, Part::Signs, old, new);
+    part_change(Kind::Vc, n, Field::Signs, old, new);
 }
 
 fn half_change(kind: Kind, n: usize, high: bool, old: u32, new: u32) {
     match kind {
         Kind::A => address_change(n, high, old, new),
-        Kind::R => part_change(Kind::R, n, Part::Whole, old, new),
+        Kind::R => part_change(Kind::R, n, Field::Whole, old, new),
         Kind::C => flags_change(n, high, old, new),
         Kind::Vc => vector_flags_change(n, high, old, new),
     }

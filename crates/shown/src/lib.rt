@@ -3,7 +3,7 @@
 pub mod cells; // cells.rt: the addresses and cells of the store's bytes
 pub mod changes; // changes.rt: what a step changed
 pub mod figures; // figures.rt: numbers and bytes
-pub mod parts; // parts.rt: the parts of registers, with their bits
+pub mod parts; // parts.rt: the parts of registers
 pub mod phrases; // phrases.rt: places, refusals, answers and steps in words
 pub mod places; // places.rt: what a place's number stands for
 pub mod registers; // registers.rt: registers, as the last part shows them

@@ -2,31 +2,31 @@
 use crate::figures::all_are;
 use crate::figures::bytes;
 use crate::figures::numbered;
-use crate::parts::Part;
 use crate::parts::show;
+use orders::Field;
 use orders::Kind;
 use text::print::text;
 
 fn address(word: u32) {
-    show(Part::Addr, word);
-    show(Part::Limit, word);
-    show(Part::Stride, word);
+    show(Field::Addr, word);
+    show(Field::Limit, word);
+    show(Field::Stride, word);
 }
 
 // Where bits are set that have no name the parts would not say all.
 fn flags(word: u32) {
     if word & 0xfffff8ff != 0 {
-        show(Part::Whole, word);
+        show(Field::Whole, word);
         return;
     }
-    show(Part::Sign, word);
-    show(Part::Zero, word);
-    show(Part::End, word);
+    show(Field::Sign, word);
+    show(Field::Zero, word);
+    show(Field::End, word);
 }
 
 fn vector_flags(word: u32) {
-    show(Part::Signs, word);
-    show(Part::Zeros, word);
+    show(Field::Signs, word);
+    show(Field::Zeros, word);
 }
 
 // `$a3`: the name of a register.
@@ -44,7 +44,7 @@ pub fn word(kind: Kind, n: usize, value: u32) {
     named(kind, n);
     match kind {
         Kind::A => address(value),
-        Kind::R => show(Part::Whole, value),
+        Kind::R => show(Field::Whole, value),
         Kind::C => flags(value),
         Kind::Vc => vector_flags(value),
     }
