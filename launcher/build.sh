@@ -1,7 +1,7 @@
 # How ./vp1 proves and builds a program: one use at a time, with word of how far it is, and so that an interrupt ends the prover too. Read by vp1 where
 # something has to be built.
 # shellcheck shell=sh
-# shellcheck disable=SC2154 # here, desk, state, kit, tools, bin, program and room are vp1's
+# shellcheck disable=SC2154 # here, parts, state, kit, tools, bin, program and room are vp1's
 
 # ---- One at a time
 
@@ -134,7 +134,7 @@ spoken() { if [ "$1" -lt 60 ]; then echo "$1 s"; else echo "$(($1 / 60)) min $((
 tick() {
     [ -n "$began" ] || return 0
     elapsed=$(($(date +%s) - began))
-    now=$(CRATES=$crates awk -f "$desk/progress.awk" "$said")
+    now=$(CRATES=$crates awk -f "$parts/progress.awk" "$said")
     [ -n "$announced" ] || say "$program is proved and built first: from nothing this takes $(how_long "$program"), and later uses start at once"
     announced=1
     if [ -t 2 ] && [ "${TERM:-dumb}" != dumb ]; then
@@ -190,7 +190,7 @@ prove() {
 # PROGRAM: says the first error, where all of it stands, and ends.
 failed() {
     say "rt check $1 failed:"
-    LC_ALL=C awk -f "$desk/error.awk" "$said" >&2
+    LC_ALL=C awk -f "$parts/error.awk" "$said" >&2
     crate=$(sed -n 's/^rt: \([a-z0-9_]*\) NOT PROVED.*/\1/p' "$said" | head -n 1)
     log=$said
     [ -z "$crate" ] || log=$here/target/log/$crate.out

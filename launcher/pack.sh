@@ -1,6 +1,6 @@
 # How ./vp1 makes a pack for a class: a folder that runs on x86-64 Linux without the toolchain, and has nothing of the machine it was made on. Read by vp1.
 # shellcheck shell=sh
-# shellcheck disable=SC2154 # here, desk, kit, lib, emulator and feed are vp1's
+# shellcheck disable=SC2154 # here, parts, kit, lib, emulator and feed are vp1's
 
 programs='desk lines plot lab'
 pages='COMMANDS LISTING NAMES INSTRUCTIONS LAB PLACES PICTURES' # the documents for trainees
@@ -60,7 +60,7 @@ fill() {
     find_loader
     put 755 "$here/vp1" vp1
     for file in paint.sed near.awk $(way=pack && commands | sed 's,[a-z]*,help/&,g') help/status help/more; do
-        put 644 "$desk/$file" "desk/$file"
+        put 644 "$parts/$file" "launcher/$file"
     done
     for program in $programs; do
         put 755 "$here/target/bin/$program" "bin/$program"
@@ -86,9 +86,9 @@ fill_lib() {
     for file in "$kit"/toolchain/*[Cc]opyright* "$kit"/toolchain/*LICEN* "$kit"/toolchain/*COPYING* "$lib"/*[Cc]opyright* "$lib"/*LICEN* "$lib"/*COPYING*; do
         [ ! -f "$file" ] || put 644 "$file" "lib/${file##*/}"
     done
-    put 644 "$desk/pack/LGPL-2.1.txt" lib/LGPL-2.1.txt
+    put 644 "$parts/pack/LGPL-2.1.txt" lib/LGPL-2.1.txt
     version=$(LC_ALL=C grep -a -o 'GNU C Library ([ -~]*' "$lib/libc.so.6" | sed -n 1p)
-    printf '%s\n' "${version:-The GNU C Library}" | cat - "$desk/pack/ABOUT.txt" | put 644 - lib/ABOUT.txt || exit
+    printf '%s\n' "${version:-The GNU C Library}" | cat - "$parts/pack/ABOUT.txt" | put 644 - lib/ABOUT.txt || exit
 }
 
 # PAGE: what is read: the examples and the documents for trainees.
@@ -103,6 +103,6 @@ fill_texts() {
     for file in "$here"/docs/pictures/*; do
         put 644 "$file" "docs/pictures/${file##*/}"
     done
-    put 644 "$desk/pack/README.txt" README.txt
+    put 644 "$parts/pack/README.txt" README.txt
     printf 'This folder is a pack: vp1 runs the programs in bin/, and builds none.\nThey were proved and built by %s.\n' "$(cat "$kit/KIT-ID")" | put 644 - PACK || exit
 }
