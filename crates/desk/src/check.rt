@@ -4,6 +4,7 @@ use crate::compare::Tally;
 use crate::pages;
 use crate::pages::Found;
 use crate::source;
+use crate::start;
 use crate::steps;
 use text::print::decimal;
 use text::print::text;
@@ -25,55 +26,52 @@ fn verdict(file: &[u8], t: Tally) -> u32 {
     1
 }
 
-// A listing and a text of what is expected: the start is set, unless this sets another one.
-fn compared(
+// Runs the steps in silence, from what the page `from` sets, and compares what they leave with the page `wanted`.
+fn compared(f: Found, from: &[u8], wanted: &[u8], words: &[u32; 3072]) -> Tally {
+    let mut ds = [0u8; 8192];
+    let mut a = [0u32; 32];
+    let mut r = [0u32; 32];
+    let mut c = [0u32; 4];
+    let mut vc = [0u32; 4];
+    let mut v = [0u8; 512];
+    start::set(from, &mut ds, &mut a, &mut r, &mut c, &mut vc, &mut v);
+    let mut banks = [0u32; 16];
+    let total = steps::run(
+        f,
+        false,
+        words,
+        &mut banks,
+        &mut ds,
+        &mut a,
+        &mut r,
+        &mut c,
+        &mut vc,
+        &mut v,
+    );
+    compare::compare(f.answers, wanted, total, &banks, &ds, &a, &r, &c, &vc, &v)
+}
+
+// A listing against the page of that name. Where this page sets the start, the listing does not.
+fn against(
     f: Found,
     file: &[u8],
+    text: &[u8],
     name: &[u8],
     wanted: &[u8],
     words: &mut [u32; 3072],
-    ds: &mut [u8; 8192],
-    a: &mut [u32; 32],
-    r: &mut [u32; 32],
-    c: &mut [u32; 4],
-    vc: &mut [u32; 4],
-    v: &mut [u8; 512],
 ) -> u32 {
-    let g = pages::read(
-        pages::between(f),
-        b"check",
-        name,
-        wanted,
-        words,
-        ds,
-        a,
-        r,
-        c,
-        vc,
-        v,
-    );
+    let g = pages::read(pages::between(f), b"check", name, wanted, words);
     if !g.good {
         return 2;
     }
-    let mut banks = [0u32; 16];
-    let total = steps::run(g, false, words, &mut banks, ds, a, r, c, vc, v);
-    let t = compare::compare(g.answers, wanted, total, &banks, ds, a, r, c, vc, v);
-    verdict(file, t)
+    if g.starts {
+        return verdict(file, compared(g, wanted, wanted, words));
+    }
+    verdict(file, compared(g, text, wanted, words))
 }
 
-// A listing without a fault, whose start is set, against the file that argument i names.
-pub fn check(
-    i: usize,
-    f: Found,
-    file: &[u8],
-    words: &mut [u32; 3072],
-    ds: &mut [u8; 8192],
-    a: &mut [u32; 32],
-    r: &mut [u32; 32],
-    c: &mut [u32; 4],
-    vc: &mut [u32; 4],
-    v: &mut [u8; 512],
-) -> u32 {
+// A listing without a fault against the file that argument i names.
+pub fn check(i: usize, f: Found, file: &[u8], text: &[u8], words: &mut [u32; 3072]) -> u32 {
     let mut name = io::large_buffer();
     let mut wanted = io::large_buffer();
     let got = source::read(b"check", i, &mut name, &mut wanted);
@@ -82,5 +80,5 @@ pub fn check(
     }
     let n = got.name;
     let m = got.length;
-    compared(f, file, &name[..n], &wanted[..m], words, ds, a, r, c, vc, v)
+    against(f, file, text, &name[..n], &wanted[..m], words)
 }

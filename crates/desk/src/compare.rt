@@ -97,7 +97,10 @@ fn found(
     v: &[u8],
 ) {
     match e {
-        Expected::Part(p) => word(p, ds, a, r, c, vc, v),
+        Expected::Part(p) => {
+            let kind = p.kind;
+            subject(Subject::Word(kind, p.n), ds, a, r, c, vc, v)
+        }
         Expected::Sixteen(s, _) => subject(s, ds, a, r, c, vc, v),
         Expected::Answer(_) => phrases::answer(total.answer),
         Expected::Steps(_) => figures::line(b"steps ", total.steps as u64),
@@ -105,11 +108,6 @@ fn found(
         Expected::Banks(_) => print_banks(banks),
         _ => {}
     }
-}
-
-fn word(p: Part, ds: &[u8], a: &[u32], r: &[u32], c: &[u32], vc: &[u32], v: &[u8]) {
-    let kind = p.kind;
-    subject(Subject::Word(kind, p.n), ds, a, r, c, vc, v);
 }
 
 fn tallied(t: Tally, agrees: bool) -> Tally {

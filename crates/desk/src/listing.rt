@@ -1,7 +1,7 @@
-// A line of a listing: what it orders is done, or put down.
+// A line of a listing: a step is put down, and all else is counted.
 use crate::pages::Found;
 use crate::pages::Taken;
-use crate::start;
+use crate::pages::started;
 use orders::Order;
 use orders::Triple;
 use orders::Wanted;
@@ -38,17 +38,7 @@ fn show(f: Found, line: &[u8]) -> Taken {
     Taken::Good(after)
 }
 
-pub fn take(
-    f: Found,
-    line: &[u8],
-    words: &mut [u32; 3072],
-    ds: &mut [u8; 8192],
-    a: &mut [u32; 32],
-    r: &mut [u32; 32],
-    c: &mut [u32; 4],
-    vc: &mut [u32; 4],
-    v: &mut [u8; 512],
-) -> Taken {
+pub fn take(f: Found, line: &[u8], words: &mut [u32; 3072]) -> Taken {
     if f.steps > 0 && sets(line) {
         return Taken::Wrong(fault(line, 0, Wanted::BeforeStep));
     }
@@ -57,6 +47,6 @@ pub fn take(
         Order::Step(t) => step(f, line, t, words),
         Order::Show(_) => show(f, line),
         Order::Wrong(fault) => Taken::Wrong(fault),
-        _ => Taken::Good(start::done(f, o, line, ds, a, r, c, vc, v)),
+        _ => Taken::Good(started(f, o)),
     }
 }

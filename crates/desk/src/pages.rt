@@ -1,11 +1,14 @@
-// A listing, or a file of what is expected, looked at line by line up to the first fault.
+// A listing, or a file of what is expected, looked at line by line up to the first fault. Its steps are put down; what sets the start is done afterwards, by `start`.
 use crate::expected;
 use crate::lines;
 use crate::listing;
-use crate::start;
 use crate::tell;
 use orders::Fault;
+use orders::Order;
 use text::count::one_more;
+
+// There are fewer steps than this in any listing, so that it is no bound.
+const NO_BUDGET: u32 = u32::MAX;
 
 // What was found so far: whether there is no fault; whether this page, behind the listing, says what is expected; its lines; the steps and the .show lines of the
 // listing; whether this page sets the start; the budget; the lines to compare, and whether an answer is among them.
@@ -36,7 +39,7 @@ pub fn nothing() -> Found {
         steps: 0,
         shows: 0,
         starts: false,
-        budget: start::NO_BUDGET,
+        budget: NO_BUDGET,
         compared: 0,
         answers: false,
     }
@@ -48,6 +51,19 @@ pub fn between(f: Found) -> Found {
     after.expected = true;
     after.lines = 0;
     after.starts = false;
+    after
+}
+
+// With a line that sets the start. The first one of a page sets aside what the page before has set, its budget too.
+pub fn started(f: Found, o: Order) -> Found {
+    let mut after = f;
+    if !f.starts {
+        after.budget = NO_BUDGET;
+    }
+    after.starts = true;
+    if let Order::Budget(n) = o {
+        after.budget = n;
+    }
     after
 }
 
@@ -63,42 +79,20 @@ fn told(t: Taken, f: Found, who: &[u8], file: &[u8], line: &[u8]) -> Found {
     }
 }
 
-fn take(
-    f: Found,
-    line: &[u8],
-    words: &mut [u32; 3072],
-    ds: &mut [u8; 8192],
-    a: &mut [u32; 32],
-    r: &mut [u32; 32],
-    c: &mut [u32; 4],
-    vc: &mut [u32; 4],
-    v: &mut [u8; 512],
-) -> Taken {
+fn take(f: Found, line: &[u8], words: &mut [u32; 3072]) -> Taken {
     if f.expected {
-        return expected::take(f, line, ds, a, r, c, vc, v);
+        return expected::take(f, line);
     }
-    listing::take(f, line, words, ds, a, r, c, vc, v)
+    listing::take(f, line, words)
 }
 
-fn next(
-    f: Found,
-    who: &[u8],
-    file: &[u8],
-    line: &[u8],
-    words: &mut [u32; 3072],
-    ds: &mut [u8; 8192],
-    a: &mut [u32; 32],
-    r: &mut [u32; 32],
-    c: &mut [u32; 4],
-    vc: &mut [u32; 4],
-    v: &mut [u8; 512],
-) -> Found {
+fn next(f: Found, who: &[u8], file: &[u8], line: &[u8], words: &mut [u32; 3072]) -> Found {
     let mut here = f;
     here.lines = one_more(f.lines);
     if line.len() == 0 {
         return here;
     }
-    let t = take(here, line, words, ds, a, r, c, vc, v);
+    let t = take(here, line, words);
     told(t, here, who, file, line)
 }
 
@@ -123,27 +117,15 @@ fn ended(f: Found, who: &[u8], file: &[u8]) -> Found {
     empty(f, who, file, b"expected a step or a dot line")
 }
 
-// Looks at the text of a page. The steps go to words, three for each; what sets the start goes to the pieces.
-pub fn read(
-    before: Found,
-    who: &[u8],
-    file: &[u8],
-    text: &[u8],
-    words: &mut [u32; 3072],
-    ds: &mut [u8; 8192],
-    a: &mut [u32; 32],
-    r: &mut [u32; 32],
-    c: &mut [u32; 4],
-    vc: &mut [u32; 4],
-    v: &mut [u8; 512],
-) -> Found {
+// Looks at the text of a page. The steps go to words, three for each.
+pub fn read(before: Found, who: &[u8], file: &[u8], text: &[u8], words: &mut [u32; 3072]) -> Found {
     let mut room = io::large_buffer();
     let mut f = before;
     let mut at = 0;
     while at < text.len() {
         let l = lines::line(text, at, &mut room);
         let n = l.length;
-        f = next(f, who, file, &room[..n], words, ds, a, r, c, vc, v);
+        f = next(f, who, file, &room[..n], words);
         if !f.good {
             return f;
         }

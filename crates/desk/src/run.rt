@@ -2,6 +2,7 @@
 use crate::asked::Options;
 use crate::lines;
 use crate::pages::Found;
+use crate::start;
 use crate::steps;
 use crate::steps::Total;
 use orders::Order;
@@ -45,13 +46,16 @@ fn status(answer: u32) -> u32 {
     if answer == 0 { 0 } else { 1 }
 }
 
-fn heading(file: &[u8]) {
-    text(b"== ");
-    text(file);
-    text(b"\n");
+// Its name, where there are several listings.
+fn heading(many: bool, file: &[u8]) {
+    if many {
+        text(b"== ");
+        text(file);
+        text(b"\n");
+    }
 }
 
-// A listing without a fault, whose start is set: its steps, and the last part. Where there are several, its name stands above.
+// A listing without a fault: its steps, and the last part.
 pub fn run(
     o: Options,
     many: bool,
@@ -59,24 +63,33 @@ pub fn run(
     file: &[u8],
     source: &[u8],
     words: &[u32; 3072],
-    ds: &mut [u8; 8192],
-    a: &mut [u32; 32],
-    r: &mut [u32; 32],
-    c: &mut [u32; 4],
-    vc: &mut [u32; 4],
-    v: &mut [u8; 512],
 ) -> u32 {
-    if many {
-        heading(file);
-    }
-    let loud = !o.quiet;
+    heading(many, file);
+    let mut ds = [0u8; 8192];
+    let mut a = [0u32; 32];
+    let mut r = [0u32; 32];
+    let mut c = [0u32; 4];
+    let mut vc = [0u32; 4];
+    let mut v = [0u8; 512];
+    start::set(source, &mut ds, &mut a, &mut r, &mut c, &mut vc, &mut v);
     let mut banks = [0u32; 16];
-    let total = steps::run(f, loud, words, &mut banks, ds, a, r, c, vc, v);
-    if loud {
+    let total = steps::run(
+        f,
+        !o.quiet,
+        words,
+        &mut banks,
+        &mut ds,
+        &mut a,
+        &mut r,
+        &mut c,
+        &mut vc,
+        &mut v,
+    );
+    if !o.quiet {
         text(b"\n");
     }
-    registers(o.all, a, r, c, vc, v);
-    shows(source, ds, a, r, c, vc, v);
+    registers(o.all, &a, &r, &c, &vc, &v);
+    shows(source, &ds, &a, &r, &c, &vc, &v);
     print_total(total, &banks);
     status(total.answer)
 }

@@ -1,13 +1,12 @@
-// The start of a run: what the dot lines set, in the six pieces of a state.
-use crate::pages::Found;
+// The start of a run: what the dot lines of a page set, in the six pieces of a state. The page has no fault.
+use crate::lines;
 use orders::Kind;
 use orders::Order;
 use orders::Part;
 use orders::bytes::byte_at;
 use orders::bytes::sixteen;
-
-// There are fewer steps than this in any listing, so that it is no bound.
-pub const NO_BUDGET: u32 = u32::MAX;
+use orders::read::sets;
+use orders::read::start;
 
 fn put_byte(bytes: &mut [u8], at: usize, b: u8) {
     if at < bytes.len() {
@@ -76,40 +75,8 @@ fn fill_byte(bytes: &mut [u8], b: u8) {
     }
 }
 
-fn zero_words(words: &mut [u32]) {
-    for i in 0..words.len() {
-        put_word(words, i, u32::MAX, 0);
-    }
-}
-
-// Where this page has not set the start yet, a state of zeros and no budget.
-pub fn begun(
-    f: Found,
-    ds: &mut [u8; 8192],
-    a: &mut [u32; 32],
-    r: &mut [u32; 32],
-    c: &mut [u32; 4],
-    vc: &mut [u32; 4],
-    v: &mut [u8; 512],
-) -> Found {
-    if f.starts {
-        return f;
-    }
-    fill_byte(ds, 0);
-    zero_words(a);
-    zero_words(r);
-    zero_words(c);
-    zero_words(vc);
-    fill_byte(v, 0);
-    let mut after = f;
-    after.budget = NO_BUDGET;
-    after
-}
-
-// Does what a line orders that sets the start.
-pub fn done(
-    f: Found,
-    o: Order,
+// Does what a line orders, if it sets the start.
+fn one(
     line: &[u8],
     ds: &mut [u8; 8192],
     a: &mut [u32; 32],
@@ -117,18 +84,37 @@ pub fn done(
     c: &mut [u32; 4],
     vc: &mut [u32; 4],
     v: &mut [u8; 512],
-) -> Found {
-    let mut after = f;
-    after.starts = true;
-    match o {
+) {
+    if !sets(line) {
+        return;
+    }
+    match start(line) {
         Order::Set(p) => set_part(p, a, r, c, vc),
         Order::SetVector(n, at) => set_vector(v, n, sixteen(line, at)),
         Order::Bytes(code, first, at) => bytes(ds, line, at, code, first),
         Order::FillBank => fill_bank(ds),
         Order::FillAddress(code) => fill_address(ds, code),
         Order::FillByte(b) => fill_byte(ds, b),
-        Order::Budget(n) => after.budget = n,
         _ => {}
     }
-    after
+}
+
+// Sets what the lines of a page order, in a state of zeros.
+pub fn set(
+    text: &[u8],
+    ds: &mut [u8; 8192],
+    a: &mut [u32; 32],
+    r: &mut [u32; 32],
+    c: &mut [u32; 4],
+    vc: &mut [u32; 4],
+    v: &mut [u8; 512],
+) {
+    let mut room = io::large_buffer();
+    let mut at = 0;
+    while at < text.len() {
+        let l = lines::line(text, at, &mut room);
+        let n = l.length;
+        one(&room[..n], ds, a, r, c, vc, v);
+        at = l.next;
+    }
 }
