@@ -102,15 +102,16 @@ grouped() {
 end_group() {
     tenths=0
     kill -TERM "-$group" 2>/dev/null
-    while group_runs && [ "$tenths" -lt 30 ]; do
-        [ "$tenths" -ne 20 ] || kill -KILL "-$group" 2>/dev/null
+    while ids=$(group_runs) && [ "$tenths" -lt 30 ]; do
+        # shellcheck disable=SC2086 # numbers
+        if [ "$tenths" -lt 20 ]; then kill -TERM $ids; else kill -KILL $ids; fi 2>/dev/null
         sleep 0.1
         tenths=$((tenths + 1))
     done
 }
 
-# Whether any process of the group runs: one that has ended, and that nobody has asked for yet, does not.
-group_runs() { cat /proc/[0-9]*/stat 2>/dev/null | awk -v g="$group" '{ sub(/.*\) /, "") } $1 !~ /[ZX]/ && $3 == g { runs = 1 } END { exit !runs }'; }
+# Which processes of the session run, also in groups of their own, as timeout makes one: one that has ended, and that nobody has asked for yet, does not.
+group_runs() { cat /proc/[0-9]*/stat 2>/dev/null | awk -v s="$group" '{ id = $1; sub(/.*\) /, "") } $1 !~ /[ZX]/ && $4 == s { print id; runs = 1 } END { exit !runs }'; }
 
 # ---- How far it is
 

@@ -22,8 +22,8 @@ function read_table(    text, part, op, count) {
 }
 
 # Whether each operand of a table's row is of a kind that `fits` knows; the first text is the name.
-function good_form(row,    kind, n, i) {
-    n = split(row, kind, " ")
+function good_form(form,    kind, n, i) {
+    n = split(form, kind, " ")
     for (i = 2; i <= n; i++)
         if (kind[i] !~ /^([su]|\[\$v?c\[[A-Z]+\]\]|\$[arv]\[[A-Z0-9]+\]|\$vc|SWZLOHI|BITOP|CMPOP|BIMM|UIMM|IMM16|IMM)$/) return 0
     return 1
@@ -44,8 +44,8 @@ function fits(text, kind) {
 function immediate(text, most) { return text ~ /^0x(0|[1-9a-f][0-9a-f]*)$/ && length(text) < 7 && number(text) <= most }
 
 # Whether the first n of the texts t are the row's line. A flags register, in brackets, may be left out.
-function is_line(row, n,    kind, m, i, j) {
-    m = split(row, kind, " ")
+function is_line(form, n,    kind, m, i, j) {
+    m = split(form, kind, " ")
     for (i = j = 1; i <= m; i++) {
         if (i == 1 ? t[j] == kind[i] : j <= n && fits(t[j], unbracketed(kind[i]))) j++
         else if (kind[i] !~ /^\[/) return 0
@@ -67,9 +67,9 @@ function as_in(head,    i, said) {
     return "expected as in: " said
 }
 
-# A table's row as the line of the word whose other 24 bits are 0.
-function example(row,    kind, n, i, said) {
-    n = split(row, kind, " ")
+# A table's form as the line of the word whose other 24 bits are 0.
+function example(form,    kind, n, i, said) {
+    n = split(form, kind, " ")
     said = kind[1]
     for (i = 2; i <= n; i++) said = said " " zeros(unbracketed(kind[i]))
     return said

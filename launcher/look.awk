@@ -41,8 +41,8 @@ END {
 
 # ---- Faults
 
-function say(fault) {
-    print ENVIRON["AT"] fault
+function say(text) {
+    print ENVIRON["AT"] text
     told = 1
     exit 2
 }

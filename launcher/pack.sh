@@ -19,7 +19,7 @@ make_pack() {
     done
     fill "$2"
     packing=''
-    printf '%s: %s files, %s bytes\n' "$folder" "$(find "$folder" -type f | wc -l)" "$(find "$folder" -type f -exec cat {} + | wc -c)" >"$room/said"
+    printf '%s: %s files, %s bytes\n' "$folder" "$(find "$folder/" -type f | wc -l)" "$(find "$folder/" -type f -exec cat {} + | wc -c)" >"$room/said"
     show "$room/said"
 }
 
@@ -69,7 +69,7 @@ fill() {
     fill_texts "$1"
     (cd "$folder" && find . -type f | sed 's,^\./,,' | LC_ALL=C sort | xargs sha256sum) >"$room/sums" || unpacked
     put 644 "$room/sums" SHA256SUMS
-    { find "$folder" -type d -exec chmod 755 {} + && find "$folder" -exec env TZ=UTC0 touch -t 200001010000 {} +; } || unpacked
+    { find "$folder/" -type d -exec chmod 755 {} + && find "$folder/" -exec env TZ=UTC0 touch -t 200001010000 {} +; } || unpacked
 }
 
 # The loader, the libraries that the programs ask it for, and on what terms these come.
