@@ -26,59 +26,40 @@ fn verdict(file: &[u8], t: Tally) -> u32 {
     1
 }
 
-// Runs the steps in silence, from what the page `from` sets, and compares what they leave with the page `wanted`.
-fn compared(f: Found, from: &[u8], wanted: &[u8], words: &[u32; 3072]) -> Tally {
-    let mut ds = [0u8; 8192];
-    let mut a = [0u32; 32];
-    let mut r = [0u32; 32];
-    let mut c = [0u32; 4];
-    let mut vc = [0u32; 4];
-    let mut v = [0u8; 512];
-    start::set(from, &mut ds, &mut a, &mut r, &mut c, &mut vc, &mut v);
-    let mut banks = [0u32; 16];
-    let total = steps::run(
-        f,
-        false,
-        words,
-        &mut banks,
-        &mut ds,
-        &mut a,
-        &mut r,
-        &mut c,
-        &mut vc,
-        &mut v,
-    );
-    compare::compare(f.answers, wanted, total, &banks, &ds, &a, &r, &c, &vc, &v)
-}
-
-// A listing against the page of that name. Where this page sets the start, the listing does not.
-fn against(
+// A listing without a fault against the file that argument i names. Where this sets the start, the listing does not.
+pub fn check(
+    i: usize,
     f: Found,
     file: &[u8],
     text: &[u8],
-    name: &[u8],
-    wanted: &[u8],
     words: &mut [u32; 3072],
+    ds: &mut [u8; 8192],
+    a: &mut [u32; 32],
+    r: &mut [u32; 32],
+    c: &mut [u32; 4],
+    vc: &mut [u32; 4],
+    v: &mut [u8; 512],
 ) -> u32 {
-    let g = pages::read(pages::between(f), b"check", name, wanted, words);
-    if !g.good {
-        return 2;
-    }
-    if g.starts {
-        return verdict(file, compared(g, wanted, wanted, words));
-    }
-    verdict(file, compared(g, text, wanted, words))
-}
-
-// A listing without a fault against the file that argument i names.
-pub fn check(i: usize, f: Found, file: &[u8], text: &[u8], words: &mut [u32; 3072]) -> u32 {
     let mut name = io::large_buffer();
-    let mut wanted = io::large_buffer();
-    let got = source::read(b"check", i, &mut name, &mut wanted);
+    let mut page = io::large_buffer();
+    let got = source::read(b"check", i, &mut name, &mut page);
     if !got.good {
         return 2;
     }
     let n = got.name;
     let m = got.length;
-    against(f, file, text, &name[..n], &wanted[..m], words)
+    let wanted = &page[..m];
+    let g = pages::read(pages::between(f), b"check", &name[..n], wanted, words);
+    if !g.good {
+        return 2;
+    }
+    if g.starts {
+        start::set(wanted, ds, a, r, c, vc, v);
+    } else {
+        start::set(text, ds, a, r, c, vc, v);
+    }
+    let mut banks = [0u32; 16];
+    let total = steps::run(g, false, words, &mut banks, ds, a, r, c, vc, v);
+    let t = compare::compare(g.answers, wanted, total, &banks, ds, a, r, c, vc, v);
+    verdict(file, t)
 }

@@ -55,7 +55,7 @@ fn heading(many: bool, file: &[u8]) {
     }
 }
 
-// A listing without a fault: its steps, and the last part.
+// A listing without a fault, from a state of zeros: its steps, and the last part.
 pub fn run(
     o: Options,
     many: bool,
@@ -63,33 +63,23 @@ pub fn run(
     file: &[u8],
     source: &[u8],
     words: &[u32; 3072],
+    ds: &mut [u8; 8192],
+    a: &mut [u32; 32],
+    r: &mut [u32; 32],
+    c: &mut [u32; 4],
+    vc: &mut [u32; 4],
+    v: &mut [u8; 512],
 ) -> u32 {
     heading(many, file);
-    let mut ds = [0u8; 8192];
-    let mut a = [0u32; 32];
-    let mut r = [0u32; 32];
-    let mut c = [0u32; 4];
-    let mut vc = [0u32; 4];
-    let mut v = [0u8; 512];
-    start::set(source, &mut ds, &mut a, &mut r, &mut c, &mut vc, &mut v);
+    start::set(source, ds, a, r, c, vc, v);
+    let loud = !o.quiet;
     let mut banks = [0u32; 16];
-    let total = steps::run(
-        f,
-        !o.quiet,
-        words,
-        &mut banks,
-        &mut ds,
-        &mut a,
-        &mut r,
-        &mut c,
-        &mut vc,
-        &mut v,
-    );
-    if !o.quiet {
+    let total = steps::run(f, loud, words, &mut banks, ds, a, r, c, vc, v);
+    if loud {
         text(b"\n");
     }
-    registers(o.all, &a, &r, &c, &vc, &v);
-    shows(source, &ds, &a, &r, &c, &vc, &v);
+    registers(o.all, a, r, c, vc, v);
+    shows(source, ds, a, r, c, vc, v);
     print_total(total, &banks);
     status(total.answer)
 }

@@ -7,10 +7,10 @@ use Rattle.desk.proofs.pages.read.Statement.{statement}
 use Rattle.desk.proofs.pages.read.Tie as tie
 
 abbrev Inv-loop : tie.InvT-loop
-Inv-loop _ _ _ _ _ _ _ _ _ _ _ _ _ _ _ _ _ _ _ _ room _ _ = length room ≡ 65536
+Inv-loop _ _ _ _ _ _ _ _ room _ _ = length room ≡ 65536
 
 abbrev μ-loop : tie.MeasureT-loop
-μ-loop _ _ text _ _ _ _ _ _ _ _ _ _ _ _ _ _ _ _ _ _ _ at = length text - at
+μ-loop _ _ text _ _ _ _ _ _ _ at = length text - at
 
 pub read-spec : {M : Type 1} → statement M
 read-spec = tie.close (tie.spec Inv-loop μ-loop
