@@ -123,7 +123,7 @@ how_long() {
     lab) echo "less than a minute" ;;
     plot) echo "a minute or two" ;;
     lines) echo "three or four minutes" ;;
-    *) echo "about eight minutes" ;;
+    *) echo "about ten minutes" ;;
     esac
 }
 
