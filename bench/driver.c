@@ -1,8 +1,8 @@
 /* One list, run by one engine: what bench/run and bench/check count the instructions of.
      driver ENGINE LIST STEPS BUDGET [SECONDS]
-   ENGINE is ours or theirs; LIST is an opcode (two hexadecimal digits), mix, kernel, or column0 to column3, by the stride code; the list has STEPS
-   triples and is run with BUDGET, so that a run with budget 0 costs all but the steps. With a fifth word the run is repeated and its nanoseconds for
-   each step are printed.
+   ENGINE is ours, theirs, or parts: ours again, lent the same list as one long part of bytes. LIST is an opcode (two hexadecimal digits), mix,
+   kernel, or column0 to column3, by the stride code; the list has STEPS triples and is run with BUDGET, so that a run with budget 0 costs all but
+   the steps. With a fifth word the run is repeated and its nanoseconds for each step are printed.
      driver opcodes
    prints the documented opcodes. */
 #include "documented.h"
@@ -77,10 +77,23 @@ static void make(const char *list, uint32_t *words, size_t steps)
         s.a[i] = (s.a[i] & 0x3fffffff) | (uint32_t)column(list) << 30;
 }
 
+/* The list as one part. On x86-64 words lie in memory as a list's bytes do: low byte first. */
+static uint32_t once_in_parts(const uint32_t *words, size_t steps, uint32_t budget)
+{
+    uint32_t done;
+    struct vp1_counts counts;
+    struct vp1_parts run;
+    vp1_parts_begin(&run, budget);
+    vp1_state_part(&s, &run, (const uint8_t *)words, 12 * steps, &done, &counts);
+    return vp1_parts_end(&run, &done, &counts);
+}
+
 static uint32_t once(const char *engine, const uint32_t *words, size_t steps, uint32_t budget)
 {
     uint32_t done;
     struct vp1_counts counts;
+    if (strcmp(engine, "parts") == 0)
+        return once_in_parts(words, steps, budget);
     if (strcmp(engine, "ours") == 0)
         return vp1_state_run(&s, words, 3 * steps, budget, &done, &counts);
     return second_run(words, 3 * steps, budget, s.ds, SECOND_DS, s.a, SECOND_A, s.r, SECOND_R, s.c, SECOND_C, s.vc, SECOND_VC,

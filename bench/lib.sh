@@ -51,5 +51,11 @@ each() {
     echo $((taken * 10 / 2000))
 }
 
+# TENTHS TENTHS: how many times the second the first is, in hundredths, rounded up: a ratio that is above a limit shows as above.
+hundredths() { echo $((($1 * 100 + $2 - 1) / $2)); }
+
+# HUNDREDTHS: as a number with a point.
+hundredth() { printf '%d.%02d' $(($1 / 100)) $(($1 % 100)); }
+
 # TENTHS: as a number with a point.
 tenth() { printf '%d.%d' $(($1 / 10)) $(($1 % 10)); }

@@ -17,7 +17,7 @@
      v    512 bytes   $v: register n at 16 * n
 
    The caller owes only what C cannot test: no pointer is null, not even with the number 0; each is aligned and has that many elements
-   behind it; and nothing that is written, a piece or a count, overlaps anything else that is lent.
+   behind it; and nothing that is written, a piece, a run's words or a count, overlaps anything else that is lent.
 
    A call answers with a number. Nothing else is an answer, and nothing is undefined for any words, side inputs, lengths or budget.
 
@@ -26,9 +26,10 @@
      VP1_UNDOCUMENTED  the opcode is from 0x80 to 0xdf, and not documented
      VP1_SIDE_INDEX    the instruction uses the side index, and it is above 31
      VP1_SIDE_MASK     the instruction is vcmpad, and the side mask word is above 0x1ffff
-     VP1_LENGTHS       a piece has another length; tested first
-     VP1_RAGGED        list call: the number of words is no multiple of 3; tested next
-     VP1_SPENT         list call: the budget is spent, and the list is not finished; tested before each triple
+     VP1_LENGTHS       a piece has another length: tested first, but an answer that a run in parts keeps comes before it; or the words of a run in
+                       parts have another length: tested before all
+     VP1_RAGGED        list call: the number of words is no multiple of 3; tested next. End of a list in parts: bytes are left over
+     VP1_SPENT         list call, part: the budget is spent, and the list is not finished; tested before each triple
      VP1_UNNAMED       reading: all up to the text's first space or line feed is no instruction's name
      VP1_AMISS         reading: anything else is amiss
      VP1_UNENDED       reading: the text's only line feed is not its last byte; tested first
@@ -61,8 +62,15 @@ struct vp1_state {
     uint8_t v[VP1_V];
 };
 
-/* What a call counts. A count that is added later becomes a field at the end, and an argument of vp1_step and vp1_run: a program over
-   vp1_state_step and vp1_state_run, which are compiled with it, then needs no other change than to be compiled again. */
+/* What is kept of a run in parts, between its calls. */
+enum { VP1_PARTS = 16 };
+
+struct vp1_parts {
+    uint32_t words[VP1_PARTS];
+};
+
+/* What a call counts. A count that is added later becomes a field at the end, and an argument of vp1_step, vp1_run, vp1_part and vp1_end: a program
+   over vp1_state_step, vp1_state_run, vp1_state_part and vp1_parts_end, which are compiled with it, then needs no other change than to be compiled again. */
 struct vp1_counts {
     uint64_t accesses;
 };

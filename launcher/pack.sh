@@ -2,8 +2,8 @@
 # shellcheck shell=sh
 # shellcheck disable=SC2154 # here, parts, kit, lib, emulator and feed are vp1's
 
-programs='desk lines plot lab'
-pages='COMMANDS LISTING NAMES INSTRUCTIONS LAB PLACES PICTURES' # the documents for trainees
+programs='desk pipe lines plot lab'
+pages='COMMANDS LISTING NAMES INSTRUCTIONS LAB PARTS PLACES PICTURES' # the documents for trainees
 
 # FOLDER PAGE: makes the pack, with that page too if it is named. All that can be refused is refused before the programs are built.
 make_pack() {

@@ -44,8 +44,8 @@ static const char *reason(uint32_t answer)
         [SECOND_UNDOCUMENTED] = "opcode not documented",
         [SECOND_BAD_SIDE] = "side index above 31",
         [SECOND_BAD_MASK] = "side mask word above 0x1ffff",
-        [SECOND_BAD_LENGTH] = "", /* these two are no answers to a listing */
-        [SECOND_BAD_LIST] = "",
+        [SECOND_BAD_LENGTH] = "", /* no answer to a listing or to a pipe */
+        [SECOND_BAD_LIST] = "bytes left over that make no whole triple", /* of a pipe alone */
         [SECOND_BUDGET] = "budget spent, the list is not finished",
     };
 

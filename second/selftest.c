@@ -2,7 +2,8 @@
  * of vclip made by hand, the four lines of the lab program, and, for every address and
  * code, against the address lists written out and counted; and the places and
  * exchanges against cases made by hand from the table; and the lines of names, in
- * selftest_lines.c. Prints nothing and exits 0 if all is well. */
+ * selftest_lines.c, and lists in parts, in selftest_parts.c. Prints nothing and exits 0
+ * if all is well. */
 #include "selftest.h"
 
 #include "vp1_second.h"
@@ -785,5 +786,6 @@ int main(void)
     exchanges_of_accesses();
     refusals_of_exchanges();
     failures += selftest_lines();
+    failures += selftest_parts();
     return failures == 0 ? 0 : 1;
 }

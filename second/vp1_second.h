@@ -1,6 +1,6 @@
 /* vp1_second.h - the calls of the second simulator of VP1's address and vector
- * units: one step, or a list of steps, over six pieces lent by the caller; and the
- * places that an instruction reads and writes. */
+ * units: one step, a list of steps, or a list that arrives in parts, over six pieces
+ * lent by the caller; and the places that an instruction reads and writes. */
 #ifndef VP1_SECOND_H
 #define VP1_SECOND_H
 
@@ -40,6 +40,25 @@ uint32_t second_run(const uint32_t *words, size_t nwords, uint32_t budget,
                     uint32_t *r, size_t nr, uint32_t *c, size_t nc,
                     uint32_t *vc, size_t nvc, uint8_t *v, size_t nv,
                     uint32_t *steps, uint64_t *accesses);
+
+/* ---- Lists in parts ---- */
+
+/* A list that arrives as bytes, each word low byte first, cut anywhere: a begin, the
+ * parts, an end. What is kept between them is in these words, which docs/PARTS.md
+ * describes; their number must be SECOND_PARTS, or the call returns 5 and changes
+ * nothing. All three return the answer; the part and the end always write the counts
+ * of the run so far, 0 with a wrong number of words. */
+enum { SECOND_PARTS = 16 };
+
+uint32_t second_begin(uint32_t budget, uint32_t *run, size_t nrun);
+
+uint32_t second_part(const uint8_t *bytes, size_t nbytes,
+                     uint8_t *ds, size_t nds, uint32_t *a, size_t na,
+                     uint32_t *r, size_t nr, uint32_t *c, size_t nc,
+                     uint32_t *vc, size_t nvc, uint8_t *v, size_t nv,
+                     uint32_t *run, size_t nrun, uint32_t *steps, uint64_t *accesses);
+
+uint32_t second_end(uint32_t *run, size_t nrun, uint32_t *steps, uint64_t *accesses);
 
 /* ---- Places ---- */
 

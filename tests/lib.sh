@@ -69,12 +69,12 @@ need_second() {
     fi
 }
 
-# FOLDER: sets engine to where the second program's object files for x86-64 are, vp1_second.o, places.o and lines.o: the folder x86-64 of VP1_SECOND or of
+# FOLDER: sets engine to where the second program's object files for x86-64 are, vp1_second.o, places.o, lines.o and parts.o: the folder x86-64 of VP1_SECOND or of
 # FOLDER; on x86-64 that folder itself, where need_second has them built too.
 need_engine() {
     engine=${VP1_SECOND:-$1}
     [ "$(uname -m)" = x86_64 ] || engine=$engine/x86-64
-    [ ! -f "$engine/lines.o" ] || return 0
+    [ ! -f "$engine/parts.o" ] || return 0
     [ -z "${VP1_SECOND-}" ] || {
         echo "VP1_SECOND: second/build has not filled $engine" >&2
         return 1

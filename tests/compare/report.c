@@ -121,19 +121,6 @@ static void print_case(const struct asked *q)
     printf("\n");
 }
 
-static void print_piece(const struct room *room, enum piece p)
-{
-    size_t row = shapes[p].width == 1 ? 32 : 8;
-    int digits = shapes[p].width == 1 ? 2 : 8;
-
-    for (size_t i = 0; i < shapes[p].length; i++) {
-        if (i % row == 0)
-            printf("%s%s %zu:", i ? "\n" : "", shapes[p].name, i);
-        printf(" %0*" PRIx32, digits, element(room, p, i));
-    }
-    printf("\n");
-}
-
 /* ---- The outcomes ---- */
 
 static void print_numbers(const struct asked *q, struct side s)

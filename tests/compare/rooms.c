@@ -1,8 +1,10 @@
-/* rooms.c - the six pieces between guards: reading, writing, copying and comparing rooms. */
+/* rooms.c - the six pieces between guards: reading, writing, copying, comparing and printing rooms. */
 #include "rooms.h"
 
 #include "draw.h"
 
+#include <inttypes.h>
+#include <stdio.h>
 #include <string.h>
 
 struct room rooms[ROOMS];
@@ -48,7 +50,7 @@ void poke_vector(size_t n, const uint8_t bytes[16])
 }
 
 /* By small parts: a long memcpy is one string instruction, which an emulator does byte by byte. */
-static void copy(struct room *to, const struct room *from)
+void copy_room(struct room *to, const struct room *from)
 {
     enum { PART = 1024 };
 
@@ -66,10 +68,10 @@ void redraw_all(void)
     for (int g = 0; g <= PIECES; g++)
         memcpy((uint8_t *)first + guards[g], pattern, GUARD);
     for (int n = BEFORE + 1; n < ROOMS; n++)
-        copy(&rooms[n], first);
+        copy_room(&rooms[n], first);
 }
 
-void go_on(void) { copy(&rooms[BEFORE], &rooms[OURS]); }
+void go_on(void) { copy_room(&rooms[BEFORE], &rooms[OURS]); }
 
 int alike(const struct room *x, const struct room *y) { return memcmp(x, y, sizeof *x) == 0; }
 
@@ -94,4 +96,17 @@ int guards_whole(const struct room *room)
         if (memcmp((const uint8_t *)room + guards[g], pattern, GUARD) != 0)
             return 0;
     return 1;
+}
+
+void print_piece(const struct room *room, enum piece p)
+{
+    size_t row = shapes[p].width == 1 ? 32 : 8;
+    int digits = shapes[p].width == 1 ? 2 : 8;
+
+    for (size_t i = 0; i < shapes[p].length; i++) {
+        if (i % row == 0)
+            printf("%s%s %zu:", i ? "\n" : "", shapes[p].name, i);
+        printf(" %0*" PRIx32, digits, element(room, p, i));
+    }
+    printf("\n");
 }

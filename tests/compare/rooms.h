@@ -54,6 +54,8 @@ void poke_vector(size_t n, const uint8_t bytes[16]);
 /* Draws all pieces anew, sets the guards, and makes all rooms equal. */
 void redraw_all(void);
 
+void copy_room(struct room *to, const struct room *from);
+
 /* Takes the state that our engine left for the state before the next case. */
 void go_on(void);
 
@@ -65,5 +67,8 @@ int guards_alike(const struct room *x, const struct room *y);
 
 /* Whether the guards are as they were set. */
 int guards_whole(const struct room *room);
+
+/* All elements of a piece, in hexadecimal; a row starts with its first index. */
+void print_piece(const struct room *room, enum piece p);
 
 #endif

@@ -20,14 +20,17 @@
 /* The lengths are the header's, written out once more; and there is no gap, so that states can be compared as bytes. */
 #define LENT(p) (p).ds, 8192, (p).a, 32, (p).r, 32, (p).c, 4, (p).vc, 4, (p).v, 512
 static_assert(sizeof(struct vp1_state) == 8192 + 4 * (32 + 32 + 4 + 4) + 512, "the six pieces and nothing else");
+static_assert(sizeof(struct vp1_parts) == 4 * 16, "sixteen words and nothing else");
 
-/* Each function's name; the answers that it can give and those that it gave, the answer n as bit n. Over a state none can give 5. */
-enum function { STEP, RUN, PLACES, MAY_SWAP, FUNCTIONS };
+/* Each function's name; the answers that it can give and those that it gave, the answer n as bit n. Over a state none can give 5 (a part would
+   give it again if it was kept: no run here has it). */
+enum function { STEP, RUN, PLACES, MAY_SWAP, PART, END, FUNCTIONS };
 static struct {
     const char *name;
     unsigned can, gave;
 } functions[FUNCTIONS] = {
-    {"vp1_state_step", 0x1f, 0}, {"vp1_state_run", 0xdf, 0}, {"vp1_state_places", 0x1f, 0}, {"vp1_state_may_swap", 0x1f, 0}};
+    {"vp1_state_step", 0x1f, 0}, {"vp1_state_run", 0xdf, 0}, {"vp1_state_places", 0x1f, 0}, {"vp1_state_may_swap", 0x1f, 0},
+    {"vp1_state_part", 0x9f, 0}, {"vp1_parts_end", 0xdf, 0}};
 
 static struct vp1_state s, t; /* the functions change s, the plain calls t */
 static uint64_t seed = 0x13198a2e03707344;
@@ -81,6 +84,16 @@ static void step(void)
     agree(STEP, x == y && k.accesses == cells, x);
 }
 
+/* A list, mostly of documented opcodes, so that some get far. */
+static void triples(uint32_t *words, size_t n)
+{
+    for (size_t i = 0; i < n; i++) {
+        triple(words + 3 * i);
+        if (draw() % 8 != 0)
+            words[3 * i] = (0x88 + draw() % 4 * 16 + draw() % 4) << 24 | (words[3 * i] & 0xffffff);
+    }
+}
+
 static void run(void)
 {
     static uint32_t words[3 * 16 + 2];
@@ -88,14 +101,53 @@ static void run(void)
     uint32_t budget = draw() % 24, steps = draw(), done = draw();
     struct vp1_counts k = {draw()};
     uint64_t cells = draw();
-    for (size_t i = 0; i < n; i++) {
-        triple(words + 3 * i);
-        if (draw() % 8 != 0) /* so that some lists get far: an opcode that is documented */
-            words[3 * i] = (0x88 + draw() % 4 * 16 + draw() % 4) << 24 | (words[3 * i] & 0xffffff);
-    }
+    triples(words, n);
     uint32_t x = vp1_state_run(&s, words, length, budget, &steps, &k);
     uint32_t y = vp1_run(words, length, budget, LENT(t), &done, &cells);
     agree(RUN, x == y && steps == done && k.accesses == cells, x);
+}
+
+/* One part of a run, on the function's words and on the call's. */
+static void one_part(const uint8_t *bytes, size_t n, struct vp1_parts *run, uint32_t *words)
+{
+    uint32_t steps = draw(), done = draw();
+    struct vp1_counts k = {draw()};
+    uint64_t cells = draw();
+    uint32_t x = vp1_state_part(&s, run, bytes, n, &steps, &k);
+    uint32_t y = vp1_part(bytes, n, LENT(t), words, 16, &done, &cells);
+    agree(PART, x == y && steps == done && k.accesses == cells && memcmp(run->words, words, 4 * 16) == 0, x);
+}
+
+/* The end of both. */
+static void one_end(struct vp1_parts *run, uint32_t *words)
+{
+    uint32_t steps = draw(), done = draw();
+    struct vp1_counts k = {draw()};
+    uint64_t cells = draw();
+    uint32_t x = vp1_parts_end(run, &steps, &k);
+    uint32_t y = vp1_end(words, 16, &done, &cells);
+    agree(END, x == y && steps == done && k.accesses == cells && memcmp(run->words, words, 4 * 16) == 0, x);
+}
+
+/* A list in three parts, and its end; now and then a byte is missing. */
+static void parts(void)
+{
+    static uint32_t words[3 * 16];
+    static uint8_t bytes[4 * 3 * 16];
+    struct vp1_parts run;
+    uint32_t kept[16];
+    size_t n = draw() % 17, all = 12 * n, first = draw() % (all + 1), second = draw() % (all - first + 1);
+    uint32_t budget = draw() % 24;
+    triples(words, n);
+    for (size_t i = 0; i < all; i++)
+        bytes[i] = (uint8_t)(words[i / 4] >> 8 * (i % 4));
+    vp1_parts_begin(&run, budget);
+    vp1_begin(budget, kept, 16);
+    one_part(bytes, first, &run, kept);
+    one_part(bytes + first, second, &run, kept);
+    all -= draw() % 4 == 0 && first + second < all;
+    one_part(bytes + first + second, all - first - second, &run, kept);
+    one_end(&run, kept);
 }
 
 static void places(void)
@@ -145,6 +197,22 @@ static void by_hand(void)
     hold(vp1_state_run(&s, list, 8, 3, &steps, &k) == VP1_RAGGED && steps == 0 && k.accesses == 0, "a ragged list");
 }
 
+/* The same load in parts: a part answers 0 until its triple is whole and refused, and the end tells what is kept. */
+static void parts_by_hand(void)
+{
+    const uint8_t load[12] = {0x07, 0x00, 0x08, 0xd9}, wrong[12] = {0, 0, 0, 0x7f};
+    struct vp1_counts k = {99};
+    struct vp1_parts run;
+    uint32_t steps = 99;
+    memset(&s, 0, sizeof s);
+    hold(vp1_parts_begin(&run, 9) == VP1_DONE, "a run is begun");
+    hold(vp1_state_part(&s, &run, load, 11, &steps, &k) == VP1_DONE && steps == 0 && k.accesses == 0, "eleven bytes are no triple");
+    hold(vp1_state_part(&s, &run, load + 11, 1, &steps, &k) == VP1_DONE && steps == 1 && k.accesses == 8, "the twelfth makes one");
+    hold(vp1_state_part(&s, &run, wrong, 12, &steps, &k) == VP1_FOREIGN && steps == 1 && k.accesses == 8, "a wrong word in a part");
+    hold(vp1_state_part(&s, &run, load, 12, &steps, &k) == VP1_FOREIGN && steps == 1 && k.accesses == 8, "its answer is kept");
+    hold(vp1_parts_end(&run, &steps, &k) == VP1_FOREIGN && steps == 1 && k.accesses == 8, "the end tells it");
+}
+
 /* The line of a word, there and back. */
 static void line_by_hand(void)
 {
@@ -165,6 +233,7 @@ int main(void)
             fill();
         step();
         run();
+        parts();
         places();
         may_swap();
     }
@@ -174,6 +243,7 @@ int main(void)
             return EXIT_FAILURE;
         }
     by_hand();
+    parts_by_hand();
     line_by_hand();
     return EXIT_SUCCESS;
 }

@@ -19,9 +19,6 @@ mod tell;
 use crate::asked::Command;
 use crate::asked::Options;
 
-// A program in Rattle cannot set its exit status: where it is asked for, it goes here.
-const TOLD: i32 = 3;
-
 fn usage() -> u32 {
     tell::usage();
     2
@@ -58,6 +55,6 @@ fn main() {
     let o = asked::read(command);
     let status = done(command, o, asked::left(o.first));
     if o.tell {
-        io::print_decimal(TOLD, status as u64);
+        text::say::status(status);
     }
 }

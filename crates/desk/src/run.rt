@@ -7,17 +7,14 @@ use crate::steps;
 use crate::steps::Total;
 use orders::Order;
 use shown::cells::print_banks;
-use shown::figures;
-use shown::phrases;
 use shown::registers::registers;
 use shown::subjects::subject;
+use shown::total;
 use text::print::text;
 
 // What the last part says of the run itself.
 fn print_total(total: Total, banks: &[u32; 16]) {
-    phrases::answer(total.answer);
-    figures::line(b"steps ", total.steps as u64);
-    figures::line(b"cells ", total.cells);
+    total::lines(total.answer, total.steps, total.cells);
     print_banks(banks);
 }
 
@@ -39,11 +36,6 @@ fn shows(text: &[u8], ds: &[u8], a: &[u32], r: &[u32], c: &[u32], vc: &[u32], v:
         show(&room[..n], ds, a, r, c, vc, v);
         at = l.next;
     }
-}
-
-// The status of an answer.
-fn status(answer: u32) -> u32 {
-    if answer == 0 { 0 } else { 1 }
 }
 
 // Its name, where there are several listings.
@@ -81,5 +73,5 @@ pub fn run(
     registers(o.all, a, r, c, vc, v);
     shows(source, ds, a, r, c, vc, v);
     print_total(total, &banks);
-    status(total.answer)
+    total::status(total.answer)
 }

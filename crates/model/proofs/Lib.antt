@@ -8,6 +8,10 @@ pub mod Ignored
 pub mod Cells
 pub mod Lists
 pub mod Listed
+pub mod Bytes
+pub mod Fed
+pub mod Parts
+pub mod Kept
 pub mod Examples
 pub mod Foot
 pub mod Match

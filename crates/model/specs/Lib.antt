@@ -5,6 +5,7 @@ pub mod Address
 pub mod Vector
 pub mod Step
 pub mod Run
+pub mod Parts
 pub mod Table
 pub mod Claims
 pub mod Number

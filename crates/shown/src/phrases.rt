@@ -47,7 +47,7 @@ pub fn place(number: u32) {
     }
 }
 
-// Of a run no other answers come.
+// Of a run no other answers come; 6 only of a list in parts.
 fn reason(n: u32) {
     match n {
         0 => text(b"done"),
@@ -55,6 +55,7 @@ fn reason(n: u32) {
         2 => text(b"opcode not documented"),
         3 => text(b"side index above 31"),
         4 => text(b"side mask word above 0x1ffff"),
+        6 => text(b"bytes left over that make no whole triple"),
         7 => text(b"budget spent, the list is not finished"),
         _ => text(b"another reason"),
     }

@@ -186,7 +186,7 @@ fn wide(x: u8) -> u32
 }
 
 // A word from its bytes, low first.
-fn joined(b0: u8, b1: u8, b2: u8, b3: u8) -> u32
+pub fn joined(b0: u8, b1: u8, b2: u8, b3: u8) -> u32
     ensures { λ r. ⌜ r ≡ wordOf (b0 ∷ b1 ∷ b2 ∷ b3 ∷ []) ⌝ }
 {
     wide(b0) + (wide(b1) + (wide(b2) + wide(b3) * 256) * 256) * 256

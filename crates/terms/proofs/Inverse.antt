@@ -1,9 +1,8 @@
 -- The numbers tell the answers apart.
 use mathlib.Core.Path.{_≡_, refl, sym, ap, ap₂, _∙_}
-use mathlib.Core.List.{List, [], _∷_}
-use Prim.Native.Nat.{ℕ}
-use lib.ListN.{getD}
-use Rattle.terms.specs.Answers.{number}
+use Prim.Native.Nat.{ℕ, zero, suc, _<_}
+use native.Mathlib.Omega.{arith}
+use Rattle.terms.specs.Answers.{number, numbered}
 use Rattle.terms.specs.inner.Runs.{endOf, countsIn}
 use Rattle.terms.specs.declared.Refusal.the-variants as R
 use Rattle.terms.specs.declared.Counts.{Counts}
@@ -12,15 +11,7 @@ use Rattle.terms.specs.declared.Answer.the-variants as A
 use Rattle.terms.specs.declared.End.{End}
 use Rattle.terms.specs.declared.End.the-variants as E
 
--- the answers in the order of their numbers
-ends : List End
-ends = E.Done ∷ E.Refused R.Foreign ∷ E.Refused R.Undocumented ∷ E.Refused R.SideIndex ∷ E.Refused R.SideMask ∷ E.Lengths ∷ E.Ragged ∷ E.Spent ∷ E.Unnamed ∷ E.Amiss ∷ E.Unended ∷ E.Short ∷ []
-
-pub ended : ℕ → End
-ended n = getD ends n E.Done
-
-pub back : (e : End) → ended (number e) ≡ e
-unfolding ended ends
+pub back : (e : End) → numbered (number e) ≡ e
 back E.Done = refl
 back (E.Refused R.Foreign) = refl
 back (E.Refused R.Undocumented) = refl
@@ -36,7 +27,23 @@ back E.Short = refl
 
 -- their numbers tell the ends apart
 pub number-inj : (d e : End) → number d ≡ number e → d ≡ e
-number-inj d e h = sym (back d) ∙ ap ended h ∙ back e
+number-inj d e h = sym (back d) ∙ ap numbered h ∙ back e
+
+-- and each of the twelve numbers has its answer
+pub number-back : (n : ℕ) → n < 12 → number (numbered n) ≡ n
+number-back zero h = refl
+number-back (suc zero) h = refl
+number-back (suc (suc zero)) h = refl
+number-back (suc (suc (suc zero))) h = refl
+number-back (suc (suc (suc (suc zero)))) h = refl
+number-back (suc (suc (suc (suc (suc zero))))) h = refl
+number-back (suc (suc (suc (suc (suc (suc zero)))))) h = refl
+number-back (suc (suc (suc (suc (suc (suc (suc zero))))))) h = refl
+number-back (suc (suc (suc (suc (suc (suc (suc (suc zero)))))))) h = refl
+number-back (suc (suc (suc (suc (suc (suc (suc (suc (suc zero))))))))) h = refl
+number-back (suc (suc (suc (suc (suc (suc (suc (suc (suc (suc zero)))))))))) h = refl
+number-back (suc (suc (suc (suc (suc (suc (suc (suc (suc (suc (suc zero))))))))))) h = refl
+number-back (suc (suc (suc (suc (suc (suc (suc (suc (suc (suc (suc (suc n)))))))))))) h = absurd (omega arith)
 
 answered : End → Counts → Answer
 answered E.Done c = A.Done c

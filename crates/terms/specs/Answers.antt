@@ -1,5 +1,7 @@
 -- The number of each answer: document 01, "Answer numbers", and document 02's wishes.
 use Prim.Native.Nat.{ℕ}
+use mathlib.Core.List.{List, [], _∷_}
+use lib.ListN.{getD}
 use Rattle.terms.specs.declared.Refusal.the-variants as R
 use Rattle.terms.specs.declared.End.{End}
 use Rattle.terms.specs.declared.End.the-variants as E
@@ -28,3 +30,11 @@ number E.Amiss = 9
 number E.Unended = 10
 -- "an output too short for the whole line"
 number E.Short = 11
+
+-- the answers in the order of their numbers
+abbrev pub ends : List End
+ends = E.Done ∷ E.Refused R.Foreign ∷ E.Refused R.Undocumented ∷ E.Refused R.SideIndex ∷ E.Refused R.SideMask ∷ E.Lengths ∷ E.Ragged ∷ E.Spent ∷ E.Unnamed ∷ E.Amiss ∷ E.Unended ∷ E.Short ∷ []
+
+-- the answer of a number; one above the last is taken for the last
+abbrev pub numbered : ℕ → End
+numbered n = getD ends n E.Short

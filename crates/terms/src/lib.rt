@@ -1,8 +1,8 @@
 // The terms that every layer speaks in: the way of an access, a half of a word, why a call stopped and its number, what a step counts.
 ghost use mathlib.Core.Path.{_≡_};
-ghost use Rattle.terms.specs.Answers.{number};
+ghost use Rattle.terms.specs.Answers.{number, numbered};
 ghost use Rattle.terms.specs.inner.Runs.{endOf, most};
-ghost use Rattle.terms.specs.Counts.{none, entering, plus, Within};
+ghost use Rattle.terms.specs.Counts.{none, entering, plus, Within, withinOf};
 
 // How an access goes: along a row, down a column, or over the four bytes of a word.
 pub enum Way {
@@ -77,6 +77,26 @@ pub fn number(e: End) -> u32
     }
 }
 
+// The answer of a number; one above the last is taken for the last.
+pub fn numbered(n: u32) -> End
+    ensures { λ e. ⌜ e ≡ numbered n ⌝ }
+{
+    match n {
+        0 => End::Done,
+        1 => End::Refused(Refusal::Foreign),
+        2 => End::Refused(Refusal::Undocumented),
+        3 => End::Refused(Refusal::SideIndex),
+        4 => End::Refused(Refusal::SideMask),
+        5 => End::Lengths,
+        6 => End::Ragged,
+        7 => End::Spent,
+        8 => End::Unnamed,
+        9 => End::Amiss,
+        10 => End::Unended,
+        _ => End::Short,
+    }
+}
+
 // How a run ends with a triple's answer.
 pub fn end_of(x: Answer) -> End
     ensures { λ e. ⌜ e ≡ endOf x ⌝ }
@@ -108,4 +128,11 @@ pub fn sum(x: Counts, y: Counts) -> Counts
     Counts {
         accesses: x.accesses + y.accesses,
     }
+}
+
+// Whether n steps can have counted this.
+pub fn within(n: u32, c: Counts) -> bool
+    ensures { λ r. ⌜ r ≡ withinOf n c ⌝ }
+{
+    c.accesses <= n as u64 * 16
 }

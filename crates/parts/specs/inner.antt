@@ -1,0 +1,2 @@
+-- Inner to the proof of code: nobody has to believe it.
+pub mod Feed

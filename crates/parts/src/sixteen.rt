@@ -1,0 +1,104 @@
+// The state of a run in parts as sixteen words of 32 bits, for C.
+ghost use mathlib.Core.Path.{_≡_};
+ghost use mathlib.Core.Bool.{cond};
+ghost use mathlib.Core.List.{_++_};
+ghost use Prim.Native.Nat.{_+_, _*_};
+ghost use lib.ListN.{length};
+ghost use Rattle.model.specs.Address.{split};
+ghost use Rattle.parts.specs.Words.{worded, unworded};
+use crate::Run;
+
+// A truth as a word.
+fn bit(t: bool) -> u32
+    ensures { λ r. ⌜ r ≡ cond t 1 0 ⌝ }
+{
+    if t { 1 } else { 0 }
+}
+
+// The bytes of three words, low byte first.
+fn bytes(x: u32, y: u32, z: u32) -> [u8; 12]
+    ensures { λ r. ⌜ r ≡ split x ++ split y ++ split z ⌝ }
+{
+    [
+        (x % 256) as u8,
+        (x / 256 % 256) as u8,
+        (x / 65536 % 256) as u8,
+        (x / 16777216 % 256) as u8,
+        (y % 256) as u8,
+        (y / 256 % 256) as u8,
+        (y / 65536 % 256) as u8,
+        (y / 16777216 % 256) as u8,
+        (z % 256) as u8,
+        (z / 256 % 256) as u8,
+        (z / 65536 % 256) as u8,
+        (z / 16777216 % 256) as u8,
+    ]
+}
+
+// A number of 64 bits from its halves, low first.
+fn wide(low: u32, high: u32) -> u64
+    ensures { λ r. ⌜ r ≡ low + high * 4294967296 ⌝ }
+{
+    low as u64 + high as u64 * 4294967296
+}
+
+// The run that sixteen words hold.
+pub fn load(words: &[u32]) -> Run
+    requires { ⌜ length (now words) ≡ 16 ⌝ }
+    ensures { λ x. ⌜ x ≡ unworded (now (words .entry)) ⌝ }
+{
+    Run {
+        budget: words[0],
+        over: words[1] != 0,
+        end: terms::numbered(words[2]),
+        steps: words[3],
+        counts: terms::entering(wide(words[4], words[5])),
+        count: words[6],
+        held: bytes(words[7], words[8], words[9]),
+    }
+}
+
+// The words of a run.
+fn words(x: Run) -> [u32; 16]
+    ensures { λ r. ⌜ r ≡ worded x ⌝ }
+{
+    let end = x.end;
+    let h = x.held;
+    let accesses = x.counts.accesses;
+    [
+        x.budget,
+        bit(x.over),
+        terms::number(end),
+        x.steps,
+        (accesses % 4294967296) as u32,
+        (accesses / 4294967296) as u32,
+        x.count,
+        store::joined(h[0], h[1], h[2], h[3]),
+        store::joined(h[4], h[5], h[6], h[7]),
+        store::joined(h[8], h[9], h[10], h[11]),
+        0,
+        0,
+        0,
+        0,
+        0,
+        0,
+    ]
+}
+
+// Sixteen words to where they are lent.
+fn copy(from: [u32; 16], to: &mut [u32])
+    requires { ⌜ length (now to) ≡ 16 ⌝ }
+    ensures { λ _. ⌜ now (to .exit) ≡ from ⌝ }
+{
+    for k in 0..16 {
+        to[k] = from[k];
+    }
+}
+
+// Puts a run's words down.
+pub fn store(x: Run, to: &mut [u32])
+    requires { ⌜ length (now to) ≡ 16 ⌝ }
+    ensures { λ _. ⌜ now (to .exit) ≡ worded x ⌝ }
+{
+    copy(words(x), to)
+}

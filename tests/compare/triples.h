@@ -1,0 +1,16 @@
+/* triples.h - what lists are made of: opcodes, triples that are refused, budgets. */
+#ifndef COMPARE_TRIPLES_H
+#define COMPARE_TRIPLES_H
+
+#include <stdint.h>
+
+/* Three of eight triples are of the vector unit, five load, store or add: all opcodes alike would seldom store what is loaded. */
+uint32_t list_opcode(void);
+
+/* Makes a triple one that is refused with 1, 2, 3 or 4, or is of any opcode. */
+void refuse(uint32_t *triple);
+
+/* A budget for a list of n triples: nothing, less, as many, more, the most. */
+uint32_t draw_budget(uint32_t n);
+
+#endif
