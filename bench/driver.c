@@ -1,8 +1,9 @@
 /* One list, run by one engine: what bench/run and bench/check count the instructions of.
      driver ENGINE LIST STEPS BUDGET [SECONDS]
-   ENGINE is ours, theirs, or parts: ours again, lent the same list as one long part of bytes. LIST is an opcode (two hexadecimal digits), mix,
-   kernel, or column0 to column3, by the stride code; the list has STEPS triples and is run with BUDGET, so that a run with budget 0 costs all but
-   the steps. With a fifth word the run is repeated and its nanoseconds for each step are printed.
+   ENGINE is ours, or theirs; part or parts: ours again, lent the same list as bytes, in one long part or in one for each triple; or none, which runs
+   nothing and costs all but the calls. LIST is an opcode (two hexadecimal digits), mix, kernel, or column0 to column3, by the stride code; the list
+   has STEPS triples and is run with BUDGET, so that a run with budget 0 costs all but the steps. With a fifth word the run is repeated and its
+   nanoseconds for each step are printed.
      driver opcodes
    prints the documented opcodes. */
 #include "documented.h"
@@ -77,14 +78,15 @@ static void make(const char *list, uint32_t *words, size_t steps)
         s.a[i] = (s.a[i] & 0x3fffffff) | (uint32_t)column(list) << 30;
 }
 
-/* The list as one part. On x86-64 words lie in memory as a list's bytes do: low byte first. */
-static uint32_t once_in_parts(const uint32_t *words, size_t steps, uint32_t budget)
+/* The list in parts of so many triples, of which it is a multiple. On x86-64 words lie in memory as a list's bytes do: low byte first. */
+static uint32_t once_in_parts(const uint32_t *words, size_t steps, uint32_t budget, size_t triples)
 {
     uint32_t done;
     struct vp1_counts counts;
     struct vp1_parts run;
     vp1_parts_begin(&run, budget);
-    vp1_state_part(&s, &run, (const uint8_t *)words, 12 * steps, &done, &counts);
+    for (size_t i = 0; i < steps; i += triples)
+        vp1_state_part(&s, &run, (const uint8_t *)(words + 3 * i), 12 * triples, &done, &counts);
     return vp1_parts_end(&run, &done, &counts);
 }
 
@@ -92,8 +94,12 @@ static uint32_t once(const char *engine, const uint32_t *words, size_t steps, ui
 {
     uint32_t done;
     struct vp1_counts counts;
+    if (strcmp(engine, "none") == 0)
+        return budget < steps ? VP1_SPENT : VP1_DONE;
+    if (strcmp(engine, "part") == 0)
+        return once_in_parts(words, steps, budget, steps);
     if (strcmp(engine, "parts") == 0)
-        return once_in_parts(words, steps, budget);
+        return once_in_parts(words, steps, budget, 1);
     if (strcmp(engine, "ours") == 0)
         return vp1_state_run(&s, words, 3 * steps, budget, &done, &counts);
     return second_run(words, 3 * steps, budget, s.ds, SECOND_DS, s.a, SECOND_A, s.r, SECOND_R, s.c, SECOND_C, s.vc, SECOND_VC,

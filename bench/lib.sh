@@ -51,11 +51,18 @@ each() {
     echo $((taken * 10 / 2000))
 }
 
-# TENTHS TENTHS: how many times the second the first is, in hundredths, rounded up: a ratio that is above a limit shows as above.
-hundredths() { echo $((($1 * 100 + $2 - 1) / $2)); }
+# ENGINE LIST: the instructions of all calls on a list of 2000 triples, with what comes before and after the steps.
+calls() {
+    all=$(count "$1" "$2" 2000 2000) || return 1
+    rest=$(count none "$2" 2000 2000) || return 1
+    echo $((all - rest))
+}
 
-# HUNDREDTHS: as a number with a point.
-hundredth() { printf '%d.%02d' $(($1 / 100)) $(($1 % 100)); }
+# NUMBER NUMBER: how many times the second the first is, in thousandths, rounded up: a ratio that is above a limit shows as above.
+thousandths() { echo $((($1 * 1000 + $2 - 1) / $2)); }
+
+# THOUSANDTHS: as a number with a point.
+thousandth() { printf '%d.%03d' $(($1 / 1000)) $(($1 % 1000)); }
 
 # TENTHS: as a number with a point.
 tenth() { printf '%d.%d' $(($1 / 10)) $(($1 % 10)); }

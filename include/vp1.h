@@ -43,8 +43,8 @@ uint32_t vp1_run(const uint32_t *words, size_t words_len, uint32_t budget,
    list under the same budget, if the pieces have their right lengths and nobody else changes them between the parts.
 
    What is kept between the calls is in the sixteen words of `run`, which the caller lends to each call. What they hold is said in docs/PARTS.md;
-   a caller need not know it. They may be copied: a copy is the same run at that point. Any contents are some run (words that no run can have
-   come to are taken for one that was refused with 5 before its first step), so nothing is undefined; but begin with vp1_begin.
+   a caller need not know it. They may be copied: a copy is the same run at that point. Any contents are some run (words out of the bounds of
+   every run are taken for one that was refused with 5 before its first step), so nothing is undefined; but begin with vp1_begin.
 
    *steps and *accesses are written always: the triples done in the whole run so far, and their accesses. They stand whatever the answer is, with 5
    and 6 too.

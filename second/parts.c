@@ -35,7 +35,7 @@ static void stop(struct run *run, uint32_t answer)
     run->answer = answer;
 }
 
-/* Any words tell some run; those that no run can have come to, one that was refused before
+/* Any words tell some run; those out of the bounds of every run, one that was refused before
  * its first step. */
 static struct run tell(const uint32_t *words)
 {

@@ -303,7 +303,7 @@ static void taken_for(const uint32_t w[10], int line)
 
 #define TAKEN_FOR(...) taken_for((const uint32_t[10]){ __VA_ARGS__ }, __LINE__)
 
-/* Words that no run can have come to. */
+/* Words out of the bounds of every run. */
 static void impossible_words(void)
 {
     WORDS(9, 0, 0, 10, 0, 0, 0); /* more steps than the budget */

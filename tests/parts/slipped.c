@@ -475,7 +475,7 @@ const struct engine_slip engine_slips[] = {
     {"one step more than the budget is taken", BIT(RUN_WORDS), THEIR_OWN, more_steps},
     {"one access more than sixteen for each step is taken", BIT(RUN_WORDS), THEIR_OWN, more_accesses},
     {"the high half of the accesses is not looked at", BIT(ACCESSES), THEIR_OWN, bound_in_32_bits},
-    {"words that no run can have are a run that is begun", BIT(RUN_WORDS), THEIR_OWN, not_refused_with_5},
+    {"words out of bounds are a run that is begun", BIT(RUN_WORDS), THEIR_OWN, not_refused_with_5},
 };
 
 const int engine_slip_count = sizeof engine_slips / sizeof engine_slips[0];

@@ -14,8 +14,7 @@ use Rattle.terms.proofs.Sums.{plus-none, plus-assoc}
 use Rattle.pieces.specs.State.{State}
 use Rattle.model.specs.Step.{Outcome, tripleOf}
 use Rattle.model.specs.Run.{Triple, triples, RunOutcome, ended, runFrom}
-use Rattle.model.specs.Parts.{wordsOf, Parts, parts, Went, went, met, taken, fed, whole}
-use Rattle.model.proofs.Laws.{turn}
+use Rattle.model.specs.Parts.{wordsOf, Parts, parts, Went, went, met, taken, fed}
 use Rattle.model.proofs.Lists.{onward, joined-from}
 use Rattle.model.proofs.Bytes.{byte-triples, few-triples}
 

@@ -1,6 +1,6 @@
 -- A list that arrives in parts comes to what the list call comes to: from one law, that a part of joined bytes is two parts.
 use mathlib.Core.Path.{_≡_, refl, sym, ap, _∙_, subst}
-use Prim.Native.Nat.{ℕ, _+_, _-_, _*_, _/_, _%_, _<_}
+use Prim.Native.Nat.{ℕ, _+_, _*_, _/_, _%_, _<_}
 use native.Mathlib.Omega.{arith}
 use mathlib.Core.Bool.{Bool, true, false, cond}
 use mathlib.Core.List.{List, [], _∷_, _++_, append-nil}
@@ -11,7 +11,7 @@ use lib.Seq.{drop-append-seam, drop-length}
 use Rattle.terms.specs.Counts.{none}
 use Rattle.pieces.specs.State.{State, Sized, sizedOf}
 use Rattle.pieces.proofs.Right.{sized-if, sized-only, clash}
-use Rattle.model.specs.Run.{triples, RunOutcome, ended, runFrom, runOf}
+use Rattle.model.specs.Run.{triples, RunOutcome, runFrom, runOf}
 use Rattle.model.specs.Parts.{wordsOf, bytesOf, Parts, parts, Went, went, begun, kept, met, taken, fed, partOf, endOf, partsOf, whole, inParts}
 use Rattle.model.proofs.Lengths.{sized-from}
 use Rattle.model.proofs.Bytes.{length-words, length-bytes, words-bytes, byte-triples, few-triples}

@@ -38,7 +38,7 @@ answer-of p g = go (p .over) (g .well)
     go true h = number-back (p .number) (omega (arith, g .answered))
     go false h = sym (h refl)
 
--- a run can have come to a good run
+-- the struct of a good run is within bounds
 good-sound : (p : Parts) → Good p → sound (structOf p) ≡ true
 unfolding structOf
 good-sound p g =

@@ -1,21 +1,19 @@
 -- The calls over sixteen words, one after the other, come to the list call.
-use mathlib.Core.Path.{_≡_, refl, sym, ap, subst, _∙_}
+use mathlib.Core.Path.{_≡_, refl, ap, subst, _∙_}
 use mathlib.Core.Bool.{true}
-use mathlib.Core.List.{List, [], _∷_, _++_}
-use Prim.Native.Nat.{ℕ, zero, suc, _+_, _%_, _<_}
-use native.Mathlib.Omega.{arith}
+use mathlib.Core.List.{List, [], _∷_}
+use Prim.Native.Nat.{ℕ, _%_, _<_}
 use borrow.Author.Tests.{eq-eqb}
-use lib.ListN.{length, getD, length-append, List·getD-append}
-use lib.Seq.{getD-append-add}
+use lib.ListN.{length, getD}
 use Rattle.pieces.specs.State.{State, Sized}
-use Rattle.model.specs.Run.{RunOutcome, triples}
-use Rattle.model.specs.Run as M
-use Rattle.model.specs.Parts.{bytesOf, Parts, parts, Went, begun, fed, partOf, endOf, partsOf, whole, inParts}
-use Rattle.model.proofs.Kept.{Good, begun-good, part-good, end-good}
+use Rattle.model.specs.Run.{RunOutcome, runOf}
+use Rattle.model.specs.Parts.{bytesOf, Parts, Went, begun, partOf, endOf, partsOf, whole, inParts}
+use Rattle.model.proofs.Kept.{Good, begun-good, part-good}
 use Rattle.model.proofs.Parts.{over-part, over-end, in-parts-list}
 use Rattle.parts.specs.Run.{structOf}
 use Rattle.parts.specs.Words.{worded, Told, PartTold, partTold, telling, beginCall, partCall, endCall}
-use Rattle.parts.proofs.Back.{number-of, kept-back, length-worded}
+use Rattle.parts.proofs.Back.{kept-back, length-worded}
+use Rattle.parts.proofs.Runs.{Bytes, parts-good, end-tells, list-bytes}
 
 -- ---- one call, of words that a call left
 
@@ -50,16 +48,6 @@ abbrev pub calls : List (List ℕ) → List ℕ → State → List ℕ × State
 calls [] ws s = (ws, s)
 calls (bs ∷ cut) ws s = let t : PartTold = partCall bs ws s in calls cut (t .run .words) (t .after)
 
--- every part is of bytes
-abbrev pub Bytes : List (List ℕ) → Type 0
-Bytes [] = Unit {0}
-Bytes (bs ∷ cut) = ((i : ℕ) → i < length bs → getD bs i 0 < 256) × Bytes cut
-
--- the state stays good
-parts-good : (cut : List (List ℕ)) (p : Parts) (s : State) → Good p → Bytes cut → Good (partsOf cut p s .run)
-parts-good [] p s g f = g
-parts-good (bs ∷ cut) p s g f = let w : Went = partOf bs p s in parts-good cut (w .run) (w .after) (part-good bs p s g (f .0)) (f .1)
-
 -- the words of a good run become those of the run that the parts come to, and the pieces become what they come to
 pub calls-are : (cut : List (List ℕ)) (p : Parts) (s : State) → Good p → Bytes cut
     → calls cut (worded (structOf p)) s ≡ (worded (structOf (partsOf cut p s .run)), partsOf cut p s .after)
@@ -67,26 +55,6 @@ calls-are [] p s g f = refl
 calls-are (bs ∷ cut) p s g f =
     let w : Went = partOf bs p s in
     ap (λ (t : PartTold). calls cut (t .run .words) (t .after)) (part-told p g bs s) ∙ calls-are cut (w .run) (w .after) (part-good bs p s g (f .0)) (f .1)
-
--- ---- the bytes of a list of words
-
--- each is below 256
-bytes-small : (ws : List ℕ) (i : ℕ) → i < length (bytesOf ws) → getD (bytesOf ws) i 0 < 256
-bytes-small [] i h = absurd (omega arith)
-bytes-small (w ∷ ws) zero h = omega arith
-bytes-small (w ∷ ws) (suc zero) h = omega arith
-bytes-small (w ∷ ws) (suc (suc zero)) h = omega arith
-bytes-small (w ∷ ws) (suc (suc (suc zero))) h = omega arith
-bytes-small (w ∷ ws) (suc (suc (suc (suc i)))) h = bytes-small ws i (omega arith)
-
--- and so is each of the list's parts
-cut-bytes : (cut : List (List ℕ)) → ((i : ℕ) → i < length (whole cut) → getD (whole cut) i 0 < 256) → Bytes cut
-cut-bytes [] f = tt
-cut-bytes (bs ∷ cut) f =
-    let l : length (bs ++ whole cut) ≡ length bs + length (whole cut) = length-append bs (whole cut) in (
-      λ i h. rw (List·getD-append bs (whole cut) 0 i h) at (f i (omega arith)),
-      cut-bytes cut (λ i h. rw (getD-append-add bs (whole cut) i 0) at (f (length bs + i) (omega arith))),
-    )
 
 -- ---- a run begun, fed in parts, and ended
 
@@ -96,33 +64,32 @@ pub calls-parts : (budget : ℕ) (cut : List (List ℕ)) (s : State) (run : List
     let e : Told = endCall (c .0) in
     let w : Went = inParts budget cut s in
     (e .number ≡ w .run .number) × (e .steps ≡ w .run .steps) × (e .counts ≡ w .run .counts) × (c .1 ≡ w .after)
-unfolding structOf
 calls-parts budget cut s run l f =
     let w : Went = partsOf cut (begun budget) s in
     let g : Good (w .run) = parts-good cut (begun budget) s (begun-good budget) f in
     let a : calls cut (beginCall budget run .words) s ≡ (worded (structOf (w .run)), w .after) =
     ap (λ (t : Told). calls cut (t .words) s) (begin-told budget run l) ∙ calls-are cut (begun budget) s (begun-good budget) f in
     let d : endCall (calls cut (beginCall budget run .words) s .0) ≡ telling (structOf (endOf (w .run))) =
-    ap (λ (c : List ℕ × State). endCall (c .0)) a ∙ end-told (w .run) g in (
-      ap (λ (t : Told). t .number) d ∙ number-of (endOf (w .run)) (end-good (w .run) g),
-      ap (λ (t : Told). t .steps) d,
-      ap (λ (t : Told). t .counts) d,
+    ap (λ (c : List ℕ × State). endCall (c .0)) a ∙ end-told (w .run) g in
+    let t = end-tells (w .run) g in (
+      ap (λ (t : Told). t .number) d ∙ t .0,
+      ap (λ (t : Told). t .steps) d ∙ t .1,
+      ap (λ (t : Told). t .counts) d ∙ t .2,
       ap (λ (c : List ℕ × State). c .1) a,
     )
 
--- for C: of the bytes of a list of whole triples, however cut, they are those of the list call. (That each is below 256 follows.)
+-- for C: of the bytes of a list of whole triples, however cut, they are those of the list call
 pub calls-list : (budget : ℕ) (ws : List ℕ) (cut : List (List ℕ)) (s : State) (run : List ℕ) → length run ≡ 16 → Sized s
     → ((i : ℕ) → i < length ws → getD ws i 0 < 4294967296) → length ws % 3 ≡ 0 → whole cut ≡ bytesOf ws
-    → let o : RunOutcome = M.runOf budget ws s in
+    → let o : RunOutcome = runOf budget ws s in
     let c : List ℕ × State = calls cut (beginCall budget run .words) s in
     let e : Told = endCall (c .0) in
     (e .number ≡ o .number) × (e .steps ≡ o .steps) × (e .counts ≡ o .counts) × (c .1 ≡ o .after)
 calls-list budget ws cut s run l z f h e =
-    let b : Bytes cut = cut-bytes cut (subst (λ (bs : List ℕ). (i : ℕ) → i < length bs → getD bs i 0 < 256) (sym e) (bytes-small ws)) in
     subst
     (λ (w : Went).
     let c : List ℕ × State = calls cut (beginCall budget run .words) s in
     let t : Told = endCall (c .0) in
     (t .number ≡ w .run .number) × (t .steps ≡ w .run .steps) × (t .counts ≡ w .run .counts) × (c .1 ≡ w .after))
     (in-parts-list budget ws cut s z f h e)
-    (calls-parts budget cut s run l b)
+    (calls-parts budget cut s run l (list-bytes ws cut e))

@@ -6,7 +6,7 @@ use Prim.Native.Nat.{ℕ, _+_, _-_, _*_, _/_, _≤_, _<_}
 use native.Mathlib.Omega.{arith}
 use lib.Dec.{eqb}
 use lib.ListN.{length, take, drop, length-append, take-append-drop}
-use lib.Seq.{drop-append-add, length-take-le, getD-take}
+use lib.Seq.{drop-append-add, length-take-le}
 use Rattle.terms.specs.Answers.{number}
 use Rattle.terms.specs.Counts.{Within}
 use Rattle.terms.specs.declared.End.the-variants as E
@@ -22,14 +22,8 @@ use Rattle.model.proofs.Fed.{came, drop-triple, fed-all}
 use Rattle.parts.specs.Run.{twelve, structOf, given, handed}
 use Rattle.parts.specs.inner.Feed.{Open, openOf, closing}
 use Rattle.parts.specs.declared.Run.{Run}
-use Rattle.parts.proofs.Twelve.{Filled, filled-twelve}
+use Rattle.parts.proofs.Twelve.{twelve-first}
 use Rattle.parts.proofs.Struct.{struct, rest-of}
-
--- twelve bytes of a list that has them
-twelve-first : (l : List ℕ) → 12 ≤ length l → twelve l ≡ take 12 l
-twelve-first l h =
-    let t : Filled 12 l 12 (take 12 l) = record { size = length-take-le 12 l h; made = λ k u. getD-take 12 l k 0 u } in
-    sym (filled-twelve t (omega arith))
 
 -- the struct after whole triples is that of where they came to
 closes : (b : ℕ) (x : Ran) (s : State) (rest : List ℕ) → given (structOf (closing b x rest)) s ≡ handed (came b (drop (length rest / 12 * 12) rest) (runOutcome x s))

@@ -6,5 +6,6 @@ pub mod Stretch
 pub mod Feeding
 pub mod Called
 pub mod Back
+pub mod Runs
 pub mod Calls
 pub mod Unique

@@ -27,7 +27,7 @@ struct b o e n c k h = record { budget = b; over = o; end = e; steps = n; counts
 
 -- ---- read
 
--- what no run can have come to
+-- what is out of bounds
 pub spoilt : (x : Run) → sound x ≡ false → keptBy E.Lengths (structOf (begun 0)) ≡ structOf (meantBy x)
 unfolding structOf meantBy
 spoilt x e = rw e refl
@@ -74,7 +74,7 @@ given-end : (o : Bool) (e : End) → cond o e E.Done ≡ numbered (cond o (numbe
 given-end true e = sym (back e)
 given-end false e = refl
 
--- what a run can have come to, as it is handed back
+-- what is within bounds, as it is handed back
 module _ (x : Run) (t : sound x ≡ true) where
   tidy : (e : End) (l : List ℕ) → e ≡ cond (x .over) (x .end) E.Done
       → (l ≡ twelve (take (x .count) (x .held) ++ [])) × (length (take (x .count) (x .held)) ≡ x .count)

@@ -1,28 +1,16 @@
 -- Twelve bytes of those that are left over and those that come after them.
-use mathlib.Core.Path.{_≡_, refl, sym, ap, _∙_}
-use mathlib.Core.List.{List, _++_}
+use mathlib.Core.Path.{_≡_, refl, sym, ap, ap₂, _∙_}
+use mathlib.Core.Bool.{Bool, true, false, cond}
+use mathlib.Core.List.{List, [], _++_}
 use Prim.Native.Nat.{ℕ, zero, suc, _+_, _-_, _≤_, _<_}
 use native.Mathlib.Omega.{arith}
 use native.Mathlib.Nat.{not-suc-le-zero}
 use native.Mathlib.Decide.{ℕ-discrete}
-use lib.ListN.{length, getD, take, set, length-set, List·getD-append, List·getD-eq-default}
-use lib.Seq.{length-take-le, getD-take, getD-append-add, getD-set-same, getD-set-other, ext-getD}
+use borrow.Author.Tests.{ltb-true, ltb-false}
+use lib.Dec.{ltb}
+use lib.ListN.{length, getD, take, drop, set, length-set, length-append, length-drop, List·getD-append, List·getD-eq-default}
+use lib.Seq.{length-take-le, take-all, take-at, drop-drop, drop-append-add, take-append-add, getD-take, getD-drop, getD-append-add, getD-set-same, getD-set-other, ext-getD, paste}
 use Rattle.parts.specs.Run.{twelve}
-
-module _ (held bs : List ℕ) (count : ℕ) (h : count ≤ length held) where
-  -- a byte that was left over
-  pub byte-held : (i : ℕ) → i < count → getD held i 0 ≡ getD (take count held ++ bs) i 0
-  byte-held i l = sym (List·getD-append (take count held) bs 0 i (rw (length-take-le count held h) l) ∙ getD-take count held i 0 l)
-
-  -- one of those after them
-  pub byte-new : (i : ℕ) → count ≤ i → getD bs (i - count) 0 ≡ getD (take count held ++ bs) i 0
-  byte-new i l =
-      let e : length (take count held) + (i - count) ≡ i = omega (arith, length-take-le count held h) in
-      sym (ap (λ (k : ℕ). getD (take count held ++ bs) k 0) (sym e) ∙ getD-append-add (take count held) bs (i - count) 0)
-
-  -- none
-  pub byte-none : (i : ℕ) → count ≤ i → length bs ≤ i - count → 0 ≡ getD (take count held ++ bs) i 0
-  byte-none i l m = sym (List·getD-eq-default bs 0 m) ∙ byte-new i l
 
 -- ---- a loop that fills an array of n from the first on
 
@@ -71,3 +59,67 @@ pub take-twelve : (l : List ℕ) → length l < 12 → take (length l) (twelve l
 take-twelve l h =
     let e : length (take (length l) (twelve l)) ≡ length l = length-take-le (length l) (twelve l) (omega arith) in
     ext-getD 0 (take (length l) (twelve l)) l e (λ k u. getD-take (length l) (twelve l) k 0 (omega (arith, e)) ∙ twelve-at l k (omega (arith, e)))
+
+-- twelve bytes of a list that has them
+pub twelve-first : (l : List ℕ) → 12 ≤ length l → twelve l ≡ take 12 l
+twelve-first l h =
+    let t : Filled 12 l 12 (take 12 l) = record { size = length-take-le 12 l h; made = λ k u. getD-take 12 l k 0 u } in
+    sym (filled-twelve t (omega arith))
+
+-- ---- bytes put down in twelve zeros
+
+-- a list that has no more than twelve, with zeros behind it
+padded : (l : List ℕ) → length l ≤ 12 → l ++ drop (length l) (twelve []) ≡ twelve l
+padded l h = filled-twelve {l = l} (record { size = length-append l (drop (length l) (twelve [])) ∙ rw (length-drop (length l) (twelve [])) (omega arith); made = λ k u. go k u (ltb k (length l)) (ltb-true k (length l)) (ltb-false k (length l)) }) (omega arith)
+  where
+    go : (k : ℕ) → k < 12 → (t : Bool) → (t ≡ true → k < length l) → (t ≡ false → length l ≤ k) → getD (l ++ drop (length l) (twelve [])) k 0 ≡ getD l k 0
+    go k u true f g = List·getD-append l (drop (length l) (twelve [])) 0 k (f refl)
+    go k u false f g =
+        let e : length l + (k - length l) ≡ k = omega (arith, g refl) in
+        ap (λ (j : ℕ). getD (l ++ drop (length l) (twelve [])) j 0) (sym e)
+        ∙ getD-append-add l (drop (length l) (twelve [])) (k - length l) 0
+        ∙ getD-drop (length l) (twelve []) (k - length l) 0
+        ∙ ap (λ (j : ℕ). getD (twelve []) j 0) e
+        ∙ twelve-at [] k u
+        ∙ sym (List·getD-eq-default l 0 (g refl))
+
+-- of those that come after l, no more are looked at than there is room for
+fitting : (l bs : List ℕ) (n : ℕ) → length l ≤ 12 → n ≡ cond (ltb (length bs) (12 - length l)) (length bs) (12 - length l) → twelve (l ++ take n bs) ≡ twelve (l ++ bs)
+fitting l bs n h q = rw q (go (ltb (length bs) (12 - length l)) (ltb-false (length bs) (12 - length l)))
+  where
+    go : (t : Bool) → (t ≡ false → 12 - length l ≤ length bs) → twelve (l ++ take (cond t (length bs) (12 - length l)) bs) ≡ twelve (l ++ bs)
+    go true f = ap (λ (m : List ℕ). twelve (l ++ m)) (take-all (length bs) bs (omega arith))
+    go false f =
+        let e : length l + (12 - length l) ≡ 12 = omega arith in
+        let m : List ℕ = l ++ take (12 - length l) bs in
+        let size : length m ≡ 12 = length-append l (take (12 - length l) bs) ∙ rw (length-take-le (12 - length l) bs (f refl)) e in
+        let all : take 12 (l ++ bs) ≡ m = ap (λ (k : ℕ). take k (l ++ bs)) (sym e) ∙ take-append-add l bs (12 - length l) in
+        twelve-first m (omega (arith, size)) ∙ take-all 12 m (omega (arith, size)) ∙ sym all ∙ sym (twelve-first (l ++ bs) (rw (length-append l bs) (omega (arith, f refl))))
+
+module _ (held bs : List ℕ) (count n : ℕ) (size : length held ≡ 12) (few : count ≤ 12) where
+  -- those that are left over are as many as their count says
+  pub left-length : length (take count held) ≡ count
+  left-length = length-take-le count held (omega (arith, size))
+
+  -- those that are left over, and then as many of the others as there is room for
+  module _ (q : n ≡ cond (ltb (length bs) (12 - count)) (length bs) (12 - count)) where
+    pub put-fits : (n ≤ length bs) × (count + n ≤ 12)
+    put-fits = go (ltb (length bs) (12 - count)) (ltb-true (length bs) (12 - count)) (ltb-false (length bs) (12 - count)) q
+      where
+        go : (t : Bool) → (t ≡ true → length bs < 12 - count) → (t ≡ false → 12 - count ≤ length bs) → n ≡ cond t (length bs) (12 - count)
+            → (n ≤ length bs) × (count + n ≤ 12)
+        go true f g e = (omega (arith, e), omega (arith, e, f refl))
+        go false f g e = (omega (arith, e, g refl), omega (arith, e, few))
+
+    pub put-twice : paste (paste (twelve []) 0 held count) count bs n ≡ twelve (take count held ++ bs)
+    put-twice =
+        let l : List ℕ = take count held in
+        let z : List ℕ = drop count (twelve []) in
+        let e : 0 + count ≡ count = omega arith in
+        let f : length (l ++ take n bs) ≡ count + n = length-append l (take n bs) ∙ ap₂ (λ (x y : ℕ). x + y) left-length (length-take-le n bs (put-fits .0)) in
+        let tail : drop (count + n) (l ++ z) ≡ drop (length (l ++ take n bs)) (twelve []) =
+        ap (λ (j : ℕ). drop (j + n) (l ++ z)) (sym left-length) ∙ drop-append-add l z n ∙ drop-drop n count (twelve []) ∙ ap (λ (j : ℕ). drop j (twelve [])) (sym f) in
+        ap (λ (j : ℕ). paste (l ++ drop j (twelve [])) count bs n) e
+        ∙ ap₂ (λ (x y : List ℕ). x ++ take n bs ++ y) (take-at l z count left-length) tail
+        ∙ padded (l ++ take n bs) (omega (arith, f, put-fits .1))
+        ∙ fitting l bs n (omega (arith, left-length, few)) (rw left-length q)

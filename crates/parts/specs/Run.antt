@@ -15,12 +15,12 @@ use Rattle.parts.specs.declared.Run.{Run}
 abbrev pub answerOf : Run → ℕ
 answerOf r = cond (r .over) (number (r .end)) 0
 
--- whether a run can have come so far: no more steps than the budget, no more counted than they can count, fewer bytes left over than a triple's twelve, one of a run's
+-- whether it is within the bounds of every run: no more steps than the budget, no more counted than they can count, fewer bytes left over than a triple's twelve, one of a run's
 -- answers, 0 to 7
 abbrev pub sound : Run → Bool
 sound r = leb (r .steps) (r .budget) && withinOf (r .steps) (r .counts) && ltb (r .count) 12 && leb (answerOf r) 7
 
--- the state; what no run can have come to is taken for a run that was refused with 5 before its first step
+-- the state; what is out of these bounds is taken for a run that was refused with 5 before its first step
 unfoldable pub meantBy : Run → Parts
 meantBy r =
     cond (sound r)

@@ -1,8 +1,11 @@
 // The bytes of a part: words out of them, and twelve of them where a part begins and where it is left.
 ghost use mathlib.Core.Path.{_≡_};
+ghost use mathlib.Core.Bool.{cond};
 ghost use mathlib.Core.List.{_++_};
 ghost use Prim.Native.Nat.{_+_, _*_, _<_, _≤_};
-ghost use lib.ListN.{length, getD, take, drop};
+ghost use lib.Dec.{ltb};
+ghost use lib.ListN.{length, take, drop};
+ghost use lib.Seq.{paste};
 ghost use Rattle.model.specs.Parts.{firstWords};
 ghost use Rattle.parts.specs.Run.{twelve};
 ghost use Rattle.parts.specs.inner.Feed.{wordAt};
@@ -29,30 +32,39 @@ pub fn fill(words: &mut [u32; 384], bytes: &[u8], at: usize, n: usize)
     }
 }
 
-// Byte i of those that are left over and those that come after them; 0 behind them.
-fn byte(held: [u8; 12], count: usize, bytes: &[u8], i: usize) -> u8
-    requires { ⌜ (count ≤ 12) × (i < 12) ⌝ }
-    ensures { λ b. ⌜ b ≡ getD (take count held ++ now (bytes .entry)) i 0 ⌝ }
+// The three words of a triple's bytes.
+pub fn triple(bytes: [u8; 12]) -> [u32; 3]
+    ensures { λ r. ⌜ r ≡ firstWords 3 bytes ⌝ }
 {
-    if i < count {
-        return held[i];
-    }
-    let j = i - count;
-    if j < bytes.len() {
-        return bytes[j];
-    }
-    0
+    [word(&bytes, 0), word(&bytes, 4), word(&bytes, 8)]
 }
 
-// The first twelve of those that are left over and those that come after them. This is done a few times for a part, however long it is. (That as many
-// are left over as the count says is known here, where the array is handed over by itself.)
+// The first n bytes, put down in twelve from `at` on. (The compiler makes one copy of memory of it.)
+fn put(to: [u8; 12], at: usize, bytes: &[u8], n: usize) -> [u8; 12]
+    requires { ⌜ (at + n ≤ 12) × (n ≤ length (now bytes)) ⌝ }
+    ensures { λ r. ⌜ r ≡ paste to at (now (bytes .entry)) n ⌝ }
+{
+    let mut out = to;
+    for i in 0..n {
+        out[at + i] = bytes[i];
+    }
+    out
+}
+
+// How many of n bytes there is room for.
+fn fitting(n: usize, room: usize) -> usize
+    ensures { λ r. ⌜ r ≡ cond (ltb n room) n room ⌝ }
+{
+    if n < room { n } else { room }
+}
+
+// The first twelve of those that are left over and those that come after them; 0 behind them. (That as many are left over as the count says is known
+// here, where the array is handed over by itself.)
 pub fn twelve(held: [u8; 12], count: usize, bytes: &[u8]) -> [u8; 12]
     requires { ⌜ count ≤ 12 ⌝ }
     ensures { λ r. ⌜ (r ≡ twelve (take count held ++ now (bytes .entry))) × (length (take count held) ≡ count) ⌝ }
 {
-    let mut out = [0u8; 12];
-    for i in 0..12 {
-        out[i] = byte(held, count, bytes, i);
-    }
-    out
+    let left = put([0u8; 12], 0, &held, count);
+    let n = fitting(bytes.len(), 12 - count);
+    put(left, count, bytes, n)
 }

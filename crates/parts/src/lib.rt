@@ -64,7 +64,7 @@ fn answer(x: Run) -> u32
     0
 }
 
-// Whether a run can have come so far.
+// Whether it is within the bounds of every run.
 fn sound(x: Run) -> bool
     ensures { λ r. ⌜ r ≡ sound x ⌝ }
 {
@@ -151,8 +151,11 @@ fn feed(
         steps: x.steps,
         counts,
     };
-    let one = stream::stream(&first, x.budget, from, ds, a, r, c, vc, v);
+    let one = stream::one(first, x.budget, from, ds, a, r, c, vc, v);
     let rest = &bytes[need..];
+    if rest.len() < 12 {
+        return closing(x.budget, one, rest);
+    }
     let all = stream::stream(rest, x.budget, one, ds, a, r, c, vc, v);
     closing(x.budget, all, rest)
 }

@@ -7,6 +7,7 @@ ghost use lib.ListN.{length};
 ghost use Rattle.model.specs.Address.{split};
 ghost use Rattle.parts.specs.Words.{worded, unworded};
 use crate::Run;
+use crate::bytes::triple;
 
 // A truth as a word.
 fn bit(t: bool) -> u32
@@ -64,6 +65,7 @@ fn words(x: Run) -> [u32; 16]
 {
     let end = x.end;
     let h = x.held;
+    let held = triple(h);
     let accesses = x.counts.accesses;
     [
         x.budget,
@@ -73,9 +75,9 @@ fn words(x: Run) -> [u32; 16]
         (accesses % 4294967296) as u32,
         (accesses / 4294967296) as u32,
         x.count,
-        store::joined(h[0], h[1], h[2], h[3]),
-        store::joined(h[4], h[5], h[6], h[7]),
-        store::joined(h[8], h[9], h[10], h[11]),
+        held[0],
+        held[1],
+        held[2],
         0,
         0,
         0,

@@ -1,6 +1,6 @@
 // Whole triples as bytes, one after the other: a buffer of words at a time, so that the machine's own loop does the steps.
 ghost use mathlib.Core.Path.{_≡_};
-ghost use mathlib.Core.Bool.{not};
+ghost use mathlib.Core.Bool.{true, not};
 ghost use Prim.Native.Nat.{_+_, _<_, _≤_};
 ghost use lib.Dec.{eqb};
 ghost use Rattle.pieces.specs.State.{pieces, Sized};
@@ -14,6 +14,7 @@ ghost use Rattle.model.specs.Parts.{wordsOf};
 ghost use Rattle.model.proofs.Lists.{onward};
 ghost use Rattle.parts.specs.inner.Feed.{roomOf};
 use crate::bytes::fill;
+use crate::bytes::triple;
 use machine::Ran;
 
 // Whether a run has stopped.
@@ -37,6 +38,27 @@ fn added(x: Ran, y: Ran) -> Ran
         steps: x.steps + y.steps,
         counts: terms::sum(before, now),
     }
+}
+
+// One triple, from where a run stands that has not stopped. It takes no buffer: a part may be no more than that.
+pub fn one(
+    bytes: [u8; 12],
+    budget: u32,
+    from: Ran,
+    ds: &mut [u8],
+    a: &mut [u32],
+    r: &mut [u32],
+    c: &mut [u32],
+    vc: &mut [u32],
+    v: &mut [u8],
+) -> Ran
+    requires { ⌜ Sized (pieces ds a r c vc v) × (from .steps ≤ budget) × Within (from .steps) (from .counts) × (eqb (number (from .end)) 0 ≡ true) ⌝ }
+    ensures { λ x. ⌜ runOutcome x (pieces (ds .exit) (a .exit) (r .exit) (c .exit) (vc .exit) (v .exit))
+        ≡ onward budget (triples (wordsOf bytes)) (runOutcome from (pieces (ds .entry) (a .entry) (r .entry) (c .entry) (vc .entry) (v .entry))) ⌝ }
+{
+    let words = triple(bytes);
+    let x = machine::run(&words, budget - from.steps, ds, a, r, c, vc, v);
+    added(from, x)
 }
 
 // How many words the buffer takes next, of so many bytes that are whole triples: it holds 384 words, which are 128 triples and 1,536 bytes.

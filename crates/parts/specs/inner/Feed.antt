@@ -15,7 +15,7 @@ use Rattle.model.specs.Address.{joined}
 use Rattle.model.specs.Parts.{Parts, parts}
 use Rattle.parts.specs.declared.Run.{Run}
 
--- a run that is not over, and that a run can have come to
+-- a run that is not over, within its bounds
 pub record Open (x : Run) : Type 0 where
   pub going : x .over ≡ false
   pub budgeted : x .steps ≤ x .budget

@@ -1,37 +1,34 @@
--- `parts::bytes::twelve` meets its contract: the loop fills the twelve from the first on.
-use mathlib.Core.Path.{_≡_, refl}
-use mathlib.Core.List.{_++_}
-use Prim.Native.Nat.{_-_, _≤_}
-use native.Mathlib.Omega.{arith}
+-- `parts::bytes::twelve` meets its contract.
+use mathlib.Core.Path.{_≡_, ap, _∙_}
+use mathlib.Core.List.{List}
+use Prim.Native.Nat.{ℕ}
 use borrow.Author.Needs.{needs}
-use lib.ListN.{length, take}
-use lib.Seq.{length-take-le}
-use Rattle.parts.proofs.Twelve.{Filled, filled-none, filled-more, filled-twelve}
+use lib.ListN.{length}
+use lib.Seq.{paste}
+use Rattle.parts.proofs.Twelve.{left-length, put-fits, put-twice}
 use Rattle.parts.proofs.bytes.twelve.Statement.{statement}
 use Rattle.parts.proofs.bytes.twelve.Tie as tie
 
-abbrev Inv-loop : tie.InvT-loop
-Inv-loop held count bytes out₀ i₀ out i = (i ≤ 12) × Filled 12 (take count held ++ bytes) i out
+-- `held` has twelve bytes
+whole : (s : tie.Start) → length (s .args .t1) ≡ 12
+whole s = s .good .0 .1 .0 .1
 
-abbrev μ-loop : tie.MeasureT-loop
-μ-loop held count bytes out₀ i₀ out i = 12 - i
+put-requires-2 : tie.Need-put-requires-2
+put-requires-2 c κs =
+    let s = c .before .before .before .before in
+    let f = put-fits (s .args .t1) (s .args .bytes .now) (s .args .count) (c .fitting .result) (whole s) (s .pre) (c .fitting .ensures) in
+    (f .1, f .0)
 
-returns : tie.Need-returns Inv-loop μ-loop
+returns : tie.Need-returns
 returns c =
-    let s = c .before .before .before in
-    let e : length (s .args .held) ≡ 12 = s .good .0 .1 .0 .1 in
-    (filled-twelve (c .before .loop .inv .1) (c .loop-test .left), length-take-le (s .args .count) (s .args .held) (omega (arith, s .pre)))
+    let s = c .before .before .before .before .before in
+    let bs = s .args .bytes .now in
+    let n = c .before .fitting .result in (
+      c .put2 .ensures
+          ∙ ap (λ (l : List ℕ). paste l (s .args .count) bs n) (c .before .before .put .ensures)
+          ∙ put-twice (s .args .t1) bs (s .args .count) n (whole s) (s .pre) (c .before .fitting .ensures),
+      left-length (s .args .t1) bs (s .args .count) n (whole s) (s .pre),
+    )
 
 pub twelve-spec : {M : Type 1} → statement M
-twelve-spec =
-    tie.close
-    (tie.spec
-    Inv-loop
-    μ-loop
-    (λ c. (omega arith, filled-none _ _ refl))
-    (λ c κs. search needs)
-    (λ c. search needs)
-    (λ c. search needs)
-    (λ c. search needs)
-    (λ c. let t = c .before in (omega arith, filled-more (t .before .loop .inv .1) (t .loop-test .taken) (c .byte .ensures)))
-    returns)
+twelve-spec = tie.close (tie.spec (λ c. search needs) (λ c κs. search needs) (λ c. search needs) (λ c κs. search needs) put-requires-2 returns)
