@@ -1,7 +1,7 @@
 /* One list, run by one engine: what bench/run and bench/check count the instructions of.
      driver ENGINE LIST STEPS BUDGET [SECONDS]
-   ENGINE is ours, or theirs; part or parts: ours again, lent the same list as bytes, in one long part or in one for each triple; or none, which runs
-   nothing and costs all but the calls. LIST is an opcode (two hexadecimal digits), mix, kernel, or column0 to column3, by the stride code; the list
+   ENGINE is ours, or theirs; a number: ours again, lent the same list as bytes, in parts of so many triples; or none, which runs nothing and costs
+   all but the calls. LIST is an opcode (two hexadecimal digits), mix, kernel, or column0 to column3, by the stride code; the list
    has STEPS triples and is run with BUDGET, so that a run with budget 0 costs all but the steps. With a fifth word the run is repeated and its
    nanoseconds for each step are printed.
      driver opcodes
@@ -78,7 +78,7 @@ static void make(const char *list, uint32_t *words, size_t steps)
         s.a[i] = (s.a[i] & 0x3fffffff) | (uint32_t)column(list) << 30;
 }
 
-/* The list in parts of so many triples, of which it is a multiple. On x86-64 words lie in memory as a list's bytes do: low byte first. */
+/* The list in parts of so many triples, of which its own are a multiple. On x86-64 words lie in memory as a list's bytes do: low byte first. */
 static uint32_t once_in_parts(const uint32_t *words, size_t steps, uint32_t budget, size_t triples)
 {
     uint32_t done;
@@ -90,29 +90,28 @@ static uint32_t once_in_parts(const uint32_t *words, size_t steps, uint32_t budg
     return vp1_parts_end(&run, &done, &counts);
 }
 
-static uint32_t once(const char *engine, const uint32_t *words, size_t steps, uint32_t budget)
+/* `triples` is the number that the engine is, or 0. */
+static uint32_t once(const char *engine, size_t triples, const uint32_t *words, size_t steps, uint32_t budget)
 {
     uint32_t done;
     struct vp1_counts counts;
+    if (triples > 0)
+        return once_in_parts(words, steps, budget, triples);
     if (strcmp(engine, "none") == 0)
         return budget < steps ? VP1_SPENT : VP1_DONE;
-    if (strcmp(engine, "part") == 0)
-        return once_in_parts(words, steps, budget, steps);
-    if (strcmp(engine, "parts") == 0)
-        return once_in_parts(words, steps, budget, 1);
     if (strcmp(engine, "ours") == 0)
         return vp1_state_run(&s, words, 3 * steps, budget, &done, &counts);
     return second_run(words, 3 * steps, budget, s.ds, SECOND_DS, s.a, SECOND_A, s.r, SECOND_R, s.c, SECOND_C, s.vc, SECOND_VC,
                       s.v, SECOND_V, &done, &counts.accesses);
 }
 
-static void print_nanoseconds(const char *engine, const uint32_t *words, size_t steps, uint32_t budget)
+static void print_nanoseconds(const char *engine, size_t triples, const uint32_t *words, size_t steps, uint32_t budget)
 {
     int turns = (int)(20000000 / (steps + 1)) + 1;
     struct timespec from, to;
     clock_gettime(CLOCK_MONOTONIC, &from);
     for (int i = 0; i < turns; i++)
-        once(engine, words, steps, budget);
+        once(engine, triples, words, steps, budget);
     clock_gettime(CLOCK_MONOTONIC, &to);
     printf("%.1f\n", ((double)(to.tv_sec - from.tv_sec) * 1e9 + (double)(to.tv_nsec - from.tv_nsec)) / turns / (double)steps);
 }
@@ -131,18 +130,18 @@ int main(int argc, char **argv)
     }
     if (argc < 5)
         return 2;
-    size_t steps = strtoul(argv[3], NULL, 10);
+    size_t triples = strtoul(argv[1], NULL, 10), steps = strtoul(argv[3], NULL, 10);
     uint32_t budget = (uint32_t)strtoul(argv[4], NULL, 10);
     uint32_t *words = malloc(12 * steps + 12);
     if (words == NULL)
         return 2;
     fill();
     make(argv[2], words, steps);
-    uint32_t answer = once(argv[1], words, steps, budget);
+    uint32_t answer = once(argv[1], triples, words, steps, budget);
     if (answer != (budget < steps ? VP1_SPENT : VP1_DONE)) /* every list is good: anything else is a mistake of this program's */
         return 1;
     if (argc > 5)
-        print_nanoseconds(argv[1], words, steps, budget);
+        print_nanoseconds(argv[1], triples, words, steps, budget);
     free(words);
     return 0;
 }

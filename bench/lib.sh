@@ -51,10 +51,10 @@ each() {
     echo $((taken * 10 / 2000))
 }
 
-# ENGINE LIST: the instructions of all calls on a list of 2000 triples, with what comes before and after the steps.
+# ENGINE LIST TRIPLES: the instructions of all calls on a list of so many triples, with what comes before and after the steps.
 calls() {
-    all=$(count "$1" "$2" 2000 2000) || return 1
-    rest=$(count none "$2" 2000 2000) || return 1
+    all=$(count "$1" "$2" "$3" "$3") || return 1
+    rest=$(count none "$2" "$3" "$3") || return 1
     echo $((all - rest))
 }
 

@@ -1,6 +1,6 @@
 /* VP1's address and vector units: one instruction, a list of them, or a list that arrives in parts as bytes, on six pieces of memory that the
-   caller lends. The six pieces, what the caller owes and the numbers of the answers are in vp1_state.h. The calls are in libvp1.a, and nothing
-   here needs another library; questions about instructions, which places one touches and whether two may be swapped, are in vp1_order.h.
+   caller lends. The six pieces, what the caller owes and the numbers of the answers are in vp1_state.h. The calls are in libvp1.a, which needs no
+   other library but memcpy and memset of C's own; questions about instructions, which places one touches and whether two may be swapped, are in vp1_order.h.
    Below the calls, vp1_state_step, vp1_state_run and vp1_state_part are the same over struct vp1_state, which holds the six pieces together;
    vp1_parts_begin and vp1_parts_end over struct vp1_parts, which is lent to a part too and holds what is kept of a run in parts. */
 #ifndef VP1_H
@@ -43,8 +43,9 @@ uint32_t vp1_run(const uint32_t *words, size_t words_len, uint32_t budget,
    list under the same budget, if the pieces have their right lengths and nobody else changes them between the parts.
 
    What is kept between the calls is in the sixteen words of `run`, which the caller lends to each call. What they hold is said in docs/PARTS.md;
-   a caller need not know it. They may be copied: a copy is the same run at that point. Any contents are some run (words out of the bounds of
-   every run are taken for one that was refused with 5 before its first step), so nothing is undefined; but begin with vp1_begin.
+   a caller need not know it. They may be copied: with a copy of the pieces, a copy is the same run at that point. Any contents are some run, so
+   nothing is undefined, but begin with vp1_begin: words out of the bounds of every run are taken for one that was refused with 5 before its
+   first step, and sixteen words of 0 for one with budget 0.
 
    *steps and *accesses are written always: the triples done in the whole run so far, and their accesses. They stand whatever the answer is, with 5
    and 6 too.
@@ -53,7 +54,7 @@ uint32_t vp1_run(const uint32_t *words, size_t words_len, uint32_t budget,
 /* Begins a run. Answers 0, and 5 for a `run` of another length. */
 uint32_t vp1_begin(uint32_t budget, uint32_t *run, size_t run_len);
 
-/* One part: any number of bytes, also 0. A triple is done when its twelfth byte arrives. Answers 0 while all is well. Answers 1 to 4 and 7 as
+/* One part: any number of bytes, also 0 (`bytes` is not null then either). A triple is done when its twelfth byte arrives. Answers 0 while all is well. Answers 1 to 4 and 7 as
    vp1_run does, with the pieces as the steps done left them, and 5 if a piece has another length: then the run is over, and its answer is kept.
    Of a run that is over, every vp1_part and vp1_end gives the same answer and counts and changes nothing, until a new run is begun; this comes
    before 5. */

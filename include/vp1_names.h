@@ -1,4 +1,4 @@
-/* The line of an instruction word of VP1's address and vector units, and the word of a line. The calls are in libvp1_names.a, and nothing here needs another library. The
+/* The line of an instruction word of VP1's address and vector units, and the word of a line. The calls are in libvp1_names.a, and nothing here needs another library but C's own. The
    numbers of the answers are in vp1_state.h.
 
    A line is the chapter's name and its operands in the chapter's order, one space between, and a line feed: 0xcc181234 is "setlo $a3 0x1234\n". A word's normal form has its ignored bits 0 and, where

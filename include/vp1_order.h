@@ -1,5 +1,5 @@
 /* Questions about the instructions of VP1's address and vector units: which places one touches, and whether two may be swapped. The six pieces,
-   what the caller owes and the numbers of the answers are in vp1_state.h. The calls are in libvp1_order.a, and nothing here needs another library.
+   what the caller owes and the numbers of the answers are in vp1_state.h. The calls are in libvp1_order.a, and nothing here needs another library but C's own.
    Below the two calls, vp1_state_places and vp1_state_may_swap are the calls over struct vp1_state, which holds the six pieces together. */
 #ifndef VP1_ORDER_H
 #define VP1_ORDER_H

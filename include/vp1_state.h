@@ -27,7 +27,7 @@
      VP1_SIDE_INDEX    the instruction uses the side index, and it is above 31
      VP1_SIDE_MASK     the instruction is vcmpad, and the side mask word is above 0x1ffff
      VP1_LENGTHS       a piece has another length: tested first, but an answer that a run in parts keeps comes before it; or the words of a run in
-                       parts have another length: tested before all
+                       parts have another length: tested before all; or they are out of the bounds of every run
      VP1_RAGGED        list call: the number of words is no multiple of 3; tested next. End of a list in parts: bytes are left over
      VP1_SPENT         list call, part: the budget is spent, and the list is not finished; tested before each triple
      VP1_UNNAMED       reading: all up to the text's first space or line feed is no instruction's name

@@ -328,9 +328,13 @@ static void impossible_words(void)
     TAKEN_FOR(0, 1, 5);
 }
 
-/* Words that a run can have, but for what is not looked at. */
+/* Words within the bounds, but for what is not looked at; and words of 0, which are a new run with budget 0. */
 static void odd_words(void)
 {
+    WORDS(0, 0, 0, 0, 0, 0, 0);
+    CHECK(part(list, 11) == 0 && part(list + 11, 1) == 7 && counts(0, 0) && p.a[3] == 0);
+    WORDS(0, 0, 0, 0, 0, 0, 0);
+    CHECK(end() == 0 && counts(0, 0) && run[1] == 1);
     WORDS(9, 2, 3, 2, 32, 0, 1, 0xffffff55, 7, 7);
     run[10] = run[15] = 1;
     TAKEN_FOR(9, 1, 3, 2, 32, 0, 1, 0x55);

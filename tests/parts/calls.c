@@ -9,8 +9,6 @@
 
 #include <string.h>
 
-const char *const call_names[CALLS] = {"begin", "part", "end"};
-
 const size_t right[PIECES] = {[DS] = VP1_DS, [A] = VP1_A, [R] = VP1_R, [C] = VP1_C, [VC] = VP1_VC, [V] = VP1_V};
 
 #define LENT(s, n)                                                                                                                         \

@@ -9,12 +9,11 @@
 #include <stdint.h>
 
 enum call { BEGIN, PART, END, CALLS };
-extern const char *const call_names[CALLS];
 
 /* The right lengths of the pieces. */
 extern const size_t right[PIECES];
 
-/* The library takes bytes up through a buffer of so many triples. */
+/* The library takes bytes up through a buffer of so many triples, behind the first triple of a part. */
 enum { BLOCK = 128, BLOCK_BYTES = 12 * BLOCK };
 
 /* The most bytes of a part; at how many neighbouring places they may begin; and the most words that are lent for the run. */
@@ -72,7 +71,7 @@ enum wrong {
 };
 #define BIT(wrong) (1u << (wrong))
 
-/* Makes one call of an engine, and writes down what it said: the second engine's, as it is. */
+/* Makes the call of the second engine, without a slip, and writes down what it said. */
 void of_second(const struct asked *q, struct side *s);
 
 /* Makes the call of both engines and compares. Where they differ, or wrote where they must not, reports it and returns 0. */

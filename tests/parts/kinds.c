@@ -18,8 +18,9 @@ static const struct {
     [RAGGED_LISTS] = {"lists that end inside a triple, their whole triples as one list call too", 1},
     [BUDGETS] = {"budgets of 0, short, exact, long, 0xffffffff", 5},
     [CUTS] = {"parts by the bytes left over before, 0 to 11", 12},
-    [SIZES] = {"parts of 0 bytes, 1, 2 to 11, 12, 13 to 1,535, 1,536, up to 3,071, 3,072, up to 8,000, more", 10},
-    [REFUSED_AT] = {"refusals at a part's first triple, 2nd to 127th, 128th, 129th, 130th, later; later a last of 128, a first of 128", 8},
+    [SIZES] = {"parts of 0 bytes, 1, 2 to 11, 12, more", 5},
+    [BEHIND] = {"of 0 bytes behind their first triple, 1 to 11, up to 1,535, 1,536, up to 3,071, 3,072, up to 8,000, more", 8},
+    [REFUSED_AT] = {"refusals at a part's first triple, 2nd, 3rd to 128th, 129th, 130th, later; later a buffer's last, a buffer's first", 8},
     [SPENT_AT] = {"budgets spent at these", 8},
     [AFTER_END] = {"calls after the end: parts, ends", 2},
     [AFTER_STOP] = {"calls after a refusal or a spent budget: parts, ends", 2},
@@ -64,15 +65,15 @@ static uint32_t place(uint32_t n, const uint32_t *last, uint32_t places)
     return i;
 }
 
-/* A stop at triple i of a part, from 0. */
+/* A stop at triple i of a part, from 0: triple 0 is taken up by itself, those from 1 on by buffers. */
 static void count_stop(uint32_t answer, uint32_t i)
 {
-    static const uint32_t last[] = {0, BLOCK - 2, BLOCK - 1, BLOCK, BLOCK + 1};
+    static const uint32_t last[] = {0, 1, BLOCK - 1, BLOCK, BLOCK + 1};
     enum kind kind = answer == VP1_SPENT ? SPENT_AT : REFUSED_AT;
 
-    if (i > BLOCK + 1 && i % BLOCK == BLOCK - 1)
+    if (i > BLOCK + 1 && i % BLOCK == 0)
         count(kind, 6);
-    else if (i > BLOCK + 1 && i % BLOCK == 0)
+    else if (i > BLOCK + 1 && i % BLOCK == 1)
         count(kind, 7);
     else
         count(kind, place(i, last, 5));
@@ -80,12 +81,14 @@ static void count_stop(uint32_t answer, uint32_t i)
 
 static void count_good_part(const struct asked *q, const uint32_t *before, const struct side *after)
 {
-    static const uint32_t last[] = {0, 1, 11, 12, BLOCK_BYTES - 1, BLOCK_BYTES, 2 * BLOCK_BYTES - 1, 2 * BLOCK_BYTES, 8000};
-    uint32_t answer = after->said.answer;
+    static const uint32_t sizes[] = {0, 1, 11, 12}, behind[] = {0, 11, BLOCK_BYTES - 1, BLOCK_BYTES, 2 * BLOCK_BYTES - 1, 2 * BLOCK_BYTES, 8000};
+    uint32_t answer = after->said.answer, all = before[6] + (uint32_t)q->count;
 
-    count(SIZES, place((uint32_t)q->count, last, 9));
+    count(SIZES, place((uint32_t)q->count, sizes, 4));
     if (before[6] < 12)
         count(CUTS, before[6]);
+    if (before[6] < 12 && all >= 12)
+        count(BEHIND, place(all - 12, behind, 7));
     if (answer != VP1_DONE && answer != VP1_LENGTHS)
         count_stop(answer, after->said.steps - before[3]);
 }

@@ -12,6 +12,7 @@ enum kind {
     BUDGETS,
     CUTS,
     SIZES,
+    BEHIND,
     REFUSED_AT,
     SPENT_AT,
     AFTER_END,
@@ -32,7 +33,7 @@ enum kind {
 };
 
 /* The most numbers in a row; how many the row of odd words has. */
-enum { NUMBERS = 24, ODD = 18 };
+enum { NUMBERS = 24, ODD = 19 };
 
 /* Other numbers of words than the right one. */
 enum { OTHERS = 4 };

@@ -110,6 +110,23 @@ static void high_byte_first(const struct asked *q, struct side *s)
 
 /* ---- What is kept ---- */
 
+/* The words are not made anew by begin: of them, how many bytes are left over. */
+static void begins_with_left_over(const struct asked *q, struct side *s)
+{
+    uint32_t left = s->run.w[6];
+
+    of_second(q, s);
+    if (q->call == BEGIN && q->words == VP1_PARTS)
+        s->run.w[6] = left;
+}
+
+static void begins_without_budget(const struct asked *q, struct side *s)
+{
+    of_second(q, s);
+    if (q->call == BEGIN && q->words == VP1_PARTS)
+        s->run.w[0] = 0;
+}
+
 static void end_undoes(const struct asked *q, struct side *s)
 {
     if (q->call == END)
@@ -312,18 +329,20 @@ static void passes_over(const struct asked *q, struct side *s, int spent, uint32
     feed_nothing(q, s);
 }
 
-static void passes_over_the_128th(const struct asked *q, struct side *s)
+/* The last of the first buffer, */
+static void passes_over_the_129th(const struct asked *q, struct side *s)
 {
     if (q->call == PART && !has_wrong_length(q))
-        passes_over(q, s, 0, BLOCK - 1);
+        passes_over(q, s, 0, BLOCK);
     else
         of_second(q, s);
 }
 
-static void is_not_spent_after_128(const struct asked *q, struct side *s)
+/* and the first of the second. */
+static void is_not_spent_after_129(const struct asked *q, struct side *s)
 {
     if (q->call == PART && !has_wrong_length(q))
-        passes_over(q, s, 1, BLOCK);
+        passes_over(q, s, 1, BLOCK + 1);
     else
         of_second(q, s);
 }
@@ -436,6 +455,8 @@ const struct engine_slip engine_slips[] = {
     {"a triple is taken up at its eleventh byte", ANYTHING, THEIR_OWN, at_the_eleventh},
     {"the high byte comes first", ANYTHING, THEIR_OWN, high_byte_first},
     {"the high byte comes first, in both engines", BIT(WHOLE), IN_BOTH, high_byte_first},
+    {"begin keeps how many bytes were left over", BIT(RUN_WORDS), THEIR_OWN, begins_with_left_over},
+    {"begin forgets the budget, in both engines", BIT(FORM), IN_BOTH, begins_without_budget},
     {"the end undoes a kept answer", BIT(ANSWER), THEIR_OWN, end_undoes},
     {"the end undoes a kept answer, in both engines", BIT(STAYS), IN_BOTH, end_undoes},
     {"5 is not kept", BIT(RUN_WORDS), THEIR_OWN, keeps_no_5},
@@ -460,9 +481,9 @@ const struct engine_slip engine_slips[] = {
     {"a spent budget comes before 6", BIT(ANSWER), THEIR_OWN, spent_at_the_end},
     {"a refused triple counts", BIT(STEPS), THEIR_OWN, refusal_counts},
     {"a refused triple's bytes are left over", BIT(RUN_WORDS), THEIR_OWN, refusal_leaves_bytes},
-    {"a refusal of the 128th triple of a part is passed over", ANYTHING, THEIR_OWN, passes_over_the_128th},
-    {"a refusal of the 128th triple of a part is passed over, in both engines", BIT(WHOLE), IN_BOTH, passes_over_the_128th},
-    {"a budget that is spent behind 128 triples of a part is not seen", ANYTHING, THEIR_OWN, is_not_spent_after_128},
+    {"a refusal of the 129th triple of a part is passed over", ANYTHING, THEIR_OWN, passes_over_the_129th},
+    {"a refusal of the 129th triple of a part is passed over, in both engines", BIT(WHOLE), IN_BOTH, passes_over_the_129th},
+    {"a budget that is spent behind 129 triples of a part is not seen", ANYTHING, THEIR_OWN, is_not_spent_after_129},
     {"more than sixteen words are taken", BIT(ANSWER), THEIR_OWN, takes_other_numbers},
     {"more than sixteen words are taken, in both engines", BIT(STAYS), IN_BOTH, takes_other_numbers},
     {"the last words stay", BIT(RUN_WORDS), THEIR_OWN, keeps_last_words},

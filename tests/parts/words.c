@@ -72,7 +72,7 @@ static void set_over(uint32_t *w, uint32_t over, uint32_t answer)
     w[2] = answer;
 }
 
-/* Near what a run can have come to: its numbers one beside their bounds, or on them. */
+/* The numbers one beside their bounds, or on them. */
 static void change_numbers(uint32_t *w, uint32_t kind)
 {
     switch (kind) {
@@ -103,7 +103,8 @@ static void change(uint32_t *w, uint32_t kind)
     case 6: set_over(w, 0, below(2) ? 77 : draw()); break;
     case 7: draw_words(w, 10, VP1_PARTS, 0); break;
     case 8: draw_behind(w); break;
-    default: change_numbers(w, kind - 9);
+    case 9: draw_words(w, 0, VP1_PARTS, 1); break;
+    default: change_numbers(w, kind - 10);
     }
 }
 

@@ -177,32 +177,29 @@ in-parts-list budget ws cut s z f h e =
     let g : wordsOf (whole cut) ≡ ws = ap wordsOf e ∙ words-bytes ws f in
     rw g at (in-parts budget cut s z (omega arith))
 
--- what the end call leaves of a run that came to o before bytes that make no triple
-abbrev Ragged : RunOutcome → Went → Type 0
-Ragged o w =
+-- what the end call leaves of a run that came to o before bytes that make no triple: 6 where the triples are done; the steps stand, and so do these bytes
+abbrev pub Ragged : RunOutcome → List ℕ → Went → Type 0
+Ragged o l w =
     (w .run .number ≡ cond (eqb (o .number) 0) 6 (o .number)) × (w .run .steps ≡ o .steps) × (w .run .counts ≡ o .counts) × (w .after ≡ o .after)
-    × (w .run .over ≡ true)
+    × (w .run .over ≡ true) × (w .run .left ≡ cond (eqb (o .number) 0) l [])
 
 ragged-end : (b : ℕ) (l : List ℕ) (o : RunOutcome) → 0 < length l
-    → Ragged o (cond (eqb (o .number) 0) (went (parts b true (cond (eqb (length l) 0) 0 6) (o .steps) (o .counts) l) (o .after)) (met b o))
+    → Ragged o l (cond (eqb (o .number) 0) (went (parts b true (cond (eqb (length l) 0) 0 6) (o .steps) (o .counts) l) (o .after)) (met b o))
 ragged-end b l o h = go (eqb (o .number) 0) refl
   where
     go : (x : Bool) → eqb (o .number) 0 ≡ x
-        → Ragged o (cond (eqb (o .number) 0) (went (parts b true (cond (eqb (length l) 0) 0 6) (o .steps) (o .counts) l) (o .after)) (met b o))
-    go true e = rw (e, ne-eqb (length l) 0 (λ (g : length l ≡ 0). omega arith)) (refl, refl, refl, refl, refl)
-    go false e = rw e (refl, refl, refl, refl, refl)
+        → Ragged o l (cond (eqb (o .number) 0) (went (parts b true (cond (eqb (length l) 0) 0 6) (o .steps) (o .counts) l) (o .after)) (met b o))
+    go true e = rw (e, ne-eqb (length l) 0 (λ (g : length l ≡ 0). omega arith)) (refl, refl, refl, refl, refl, refl)
+    go false e = rw e (refl, refl, refl, refl, refl, refl)
 
--- bytes behind the whole triples that make no triple: 6 at the end call where the triples are done, and the steps stand
+-- bytes behind the whole triples that make no triple
 pub in-parts-ragged : (budget : ℕ) (xs ys : List ℕ) (cut : List (List ℕ)) (s : State) → Sized s → whole cut ≡ xs ++ ys → length xs % 12 ≡ 0
-    → 0 < length ys → length ys < 12
-    → let o : RunOutcome = runOf budget (wordsOf xs) s in
-    (inParts budget cut s .run .number ≡ cond (eqb (o .number) 0) 6 (o .number)) × (inParts budget cut s .run .steps ≡ o .steps)
-    × (inParts budget cut s .run .counts ≡ o .counts) × (inParts budget cut s .after ≡ o .after) × (inParts budget cut s .run .over ≡ true)
+    → 0 < length ys → length ys < 12 → Ragged (runOf budget (wordsOf xs) s) ys (inParts budget cut s)
 in-parts-ragged budget xs ys cut s z e h m f =
     let l : length (xs ++ ys) / 12 * 12 ≡ length xs = simp length-append (omega arith) in
     let o : RunOutcome = runFrom budget (triples (wordsOf xs)) 0 none s in
     let t : triples (wordsOf (xs ++ ys)) ≡ triples (wordsOf xs) = byte-triples xs ys h ∙ rw (few-triples ys f) (append-nil (triples (wordsOf xs))) in
     let w : Went = came budget ys o in
     let v : inParts budget cut s ≡ went (endOf (w .run)) (w .after) = rw (cut-fed budget cut s z, e, t, l, drop-append-seam xs ys) in
-    subst (λ (r : RunOutcome). Ragged r (inParts budget cut s)) (sym (run-bytes budget xs s z h))
-    (subst (λ (u : Went). Ragged o u) (sym (v ∙ finished budget ys o)) (ragged-end budget ys o m))
+    subst (λ (r : RunOutcome). Ragged r ys (inParts budget cut s)) (sym (run-bytes budget xs s z h))
+    (subst (λ (u : Went). Ragged o ys u) (sym (v ∙ finished budget ys o)) (ragged-end budget ys o m))

@@ -1,15 +1,16 @@
 -- The calls over sixteen words, one after the other, come to the list call.
 use mathlib.Core.Path.{_≡_, refl, ap, subst, _∙_}
-use mathlib.Core.Bool.{true}
-use mathlib.Core.List.{List, [], _∷_}
+use mathlib.Core.Bool.{true, cond}
+use mathlib.Core.List.{List, [], _∷_, _++_}
 use Prim.Native.Nat.{ℕ, _%_, _<_}
 use borrow.Author.Tests.{eq-eqb}
+use lib.Dec.{eqb}
 use lib.ListN.{length, getD}
 use Rattle.pieces.specs.State.{State, Sized}
 use Rattle.model.specs.Run.{RunOutcome, runOf}
-use Rattle.model.specs.Parts.{bytesOf, Parts, Went, begun, partOf, endOf, partsOf, whole, inParts}
+use Rattle.model.specs.Parts.{wordsOf, bytesOf, Parts, Went, begun, partOf, endOf, partsOf, whole, inParts}
 use Rattle.model.proofs.Kept.{Good, begun-good, part-good}
-use Rattle.model.proofs.Parts.{over-part, over-end, in-parts-list}
+use Rattle.model.proofs.Parts.{over-part, over-end, in-parts-list, in-parts-ragged}
 use Rattle.parts.specs.Run.{structOf}
 use Rattle.parts.specs.Words.{worded, Told, PartTold, partTold, telling, beginCall, partCall, endCall}
 use Rattle.parts.proofs.Back.{kept-back, length-worded}
@@ -93,3 +94,15 @@ calls-list budget ws cut s run l z f h e =
     (t .number ≡ w .run .number) × (t .steps ≡ w .run .steps) × (t .counts ≡ w .run .counts) × (c .1 ≡ w .after))
     (in-parts-list budget ws cut s z f h e)
     (calls-parts budget cut s run l (list-bytes ws cut e))
+
+-- of bytes that end inside a triple, they are those of the whole triples, 6 in the place of 0
+pub calls-ragged : (budget : ℕ) (xs ys : List ℕ) (cut : List (List ℕ)) (s : State) (run : List ℕ) → length run ≡ 16 → Sized s → Bytes cut
+    → whole cut ≡ xs ++ ys → length xs % 12 ≡ 0 → 0 < length ys → length ys < 12
+    → let o : RunOutcome = runOf budget (wordsOf xs) s in
+    let c : List ℕ × State = calls cut (beginCall budget run .words) s in
+    let e : Told = endCall (c .0) in
+    (e .number ≡ cond (eqb (o .number) 0) 6 (o .number)) × (e .steps ≡ o .steps) × (e .counts ≡ o .counts) × (c .1 ≡ o .after)
+calls-ragged budget xs ys cut s run l z f e h m k =
+    let t = calls-parts budget cut s run l f in
+    let r = in-parts-ragged budget xs ys cut s z e h m k in
+    (t .0 ∙ r .0, t .1 ∙ r .1, t .2 ∙ r .2, t .3 ∙ r .3)

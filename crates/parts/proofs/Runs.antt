@@ -1,19 +1,31 @@
 -- The calls over the struct, one after the other, come to the list call: a run begun, handed on by value from part to part, and ended.
 use mathlib.Core.Path.{_≡_, refl, sym, ap, subst, _∙_}
+use mathlib.Core.Bool.{true, cond}
 use mathlib.Core.List.{List, [], _∷_, _++_}
 use Prim.Native.Nat.{ℕ, zero, suc, _+_, _%_, _<_}
 use native.Mathlib.Omega.{arith}
+use lib.Dec.{eqb}
 use lib.ListN.{length, getD, length-append, List·getD-append}
 use lib.Seq.{getD-append-add}
 use Rattle.terms.specs.Answers.{number}
 use Rattle.pieces.specs.State.{State, Sized}
 use Rattle.model.specs.Run.{RunOutcome, runOf}
-use Rattle.model.specs.Parts.{bytesOf, Parts, Went, begun, partOf, endOf, partsOf, whole, inParts}
+use Rattle.model.specs.Parts.{wordsOf, bytesOf, Parts, Went, begun, partOf, endOf, partsOf, whole, inParts}
 use Rattle.model.proofs.Kept.{Good, begun-good, part-good, end-good}
-use Rattle.model.proofs.Parts.{in-parts-list}
+use Rattle.model.proofs.Parts.{over-part, over-end, in-parts-list, in-parts-ragged}
 use Rattle.parts.specs.Run.{meantBy, structOf, Handed, given, handed}
 use Rattle.parts.specs.declared.Run.{Run}
 use Rattle.parts.proofs.Back.{number-of, struct-back}
+
+-- ---- one call, of a struct that a call handed back
+
+-- where the run is over, nothing changes: a part and the end call hand the same struct back, and a part leaves the pieces
+pub over-kept : (p : Parts) → Good p → p .over ≡ true → (bs : List ℕ) (s : State)
+    → (handed (partOf bs (meantBy (structOf p)) s) ≡ given (structOf p) s) × (structOf (endOf (meantBy (structOf p))) ≡ structOf p)
+over-kept p g h bs s = (
+  ap (λ (q : Parts). handed (partOf bs q s)) (struct-back p g) ∙ ap handed (over-part bs p s h),
+  ap (λ (q : Parts). structOf (endOf q)) (struct-back p g) ∙ ap structOf (over-end p h),
+)
 
 -- ---- parts one after the other
 
@@ -103,3 +115,15 @@ runs-list budget ws cut s z f h e =
     (number (e .end) ≡ w .run .number) × (e .steps ≡ w .run .steps) × (e .counts ≡ w .run .counts) × (h .after ≡ w .after))
     (in-parts-list budget ws cut s z f h e)
     (t .0 .0, t .0 .1, t .0 .2, t .1)
+
+-- of bytes that end inside a triple, they are those of the whole triples, 6 in the place of 0
+pub runs-ragged : (budget : ℕ) (xs ys : List ℕ) (cut : List (List ℕ)) (s : State) → Sized s → Bytes cut → whole cut ≡ xs ++ ys → length xs % 12 ≡ 0
+    → 0 < length ys → length ys < 12
+    → let o : RunOutcome = runOf budget (wordsOf xs) s in
+    let h : Handed = runs cut (structOf (begun budget)) s in
+    let e : Run = structOf (endOf (meantBy (h .run))) in
+    (number (e .end) ≡ cond (eqb (o .number) 0) 6 (o .number)) × (e .steps ≡ o .steps) × (e .counts ≡ o .counts) × (h .after ≡ o .after)
+runs-ragged budget xs ys cut s z f e h m k =
+    let t = runs-parts budget cut s f in
+    let r = in-parts-ragged budget xs ys cut s z e h m k in
+    (t .0 .0 ∙ r .0, t .0 .1 ∙ r .1, t .0 .2 ∙ r .2, t .1 ∙ r .3)

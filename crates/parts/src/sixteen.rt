@@ -8,6 +8,7 @@ ghost use Rattle.model.specs.Address.{split};
 ghost use Rattle.parts.specs.Words.{worded, unworded};
 use crate::Run;
 use crate::bytes::triple;
+use terms::Counts;
 
 // A truth as a word.
 fn bit(t: bool) -> u32
@@ -48,12 +49,15 @@ pub fn load(words: &[u32]) -> Run
     requires { ⌜ length (now words) ≡ 16 ⌝ }
     ensures { λ x. ⌜ x ≡ unworded (now (words .entry)) ⌝ }
 {
+    let counts = Counts {
+        accesses: wide(words[4], words[5]),
+    };
     Run {
         budget: words[0],
         over: words[1] != 0,
         end: terms::numbered(words[2]),
         steps: words[3],
-        counts: terms::entering(wide(words[4], words[5])),
+        counts,
         count: words[6],
         held: bytes(words[7], words[8], words[9]),
     }

@@ -18,7 +18,7 @@ number (E.Refused R.SideIndex) = 3
 number (E.Refused R.SideMask) = 4
 -- "one of the six pieces has another length"
 number E.Lengths = 5
--- "word count not a multiple of 3"
+-- "word count not a multiple of 3"; wish 3: "left-over bytes that make no whole triple"
 number E.Ragged = 6
 -- "budget spent, list not finished"
 number E.Spent = 7

@@ -24,8 +24,8 @@ pub enum Refusal {
     SideMask,
 }
 
-// Why a call stopped: all is done, a triple was refused, a piece has another length, the words are no whole triples, the budget is spent; of a line,
-// its name is none, something else is amiss, its line feed is not the last byte and the only one, the output is too short.
+// Why a call stopped: all is done, a triple was refused, a piece has another length (or a run in parts is none), the words or bytes are no whole triples, the
+// budget is spent; of a line, its name is none, something else is amiss, its line feed is not the last byte and the only one, the output is too short.
 pub enum End {
     Done,
     Refused(Refusal),

@@ -7,7 +7,7 @@ use Rattle.parts.proofs.sixteen.load.Tie as tie
 
 returns : tie.Need-returns
 unfolding unworded
-returns c = let p = c .before .before .before .before .before in rw (p .before .before .before .before .before .numbered .ensures, p .entering .ensures, p .before .wide .ensures, c .bytes .ensures) refl
+returns c = rw (c .before .before .before .before .before .before .numbered .ensures, c .before .before .before .before .before .before .before .before .before .before .wide .ensures, c .bytes .ensures) refl
 
 pub load-spec : {M : Type 1} → statement M
 load-spec =
@@ -15,13 +15,12 @@ load-spec =
     (tie.spec
     (λ c. search needs)
     (λ c. search needs)
-    (λ c. search needs)
     (λ c κs. search needs)
     (λ c. search needs)
     (λ c. search needs)
     (λ c. search needs)
     (λ c κs. search needs)
-    (λ c κs. search needs)
+    (λ c. search needs)
     (λ c. search needs)
     (λ c. search needs)
     (λ c. search needs)
