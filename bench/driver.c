@@ -102,7 +102,7 @@ static uint32_t once(const char *engine, size_t triples, const uint32_t *words, 
     if (strcmp(engine, "ours") == 0)
         return vp1_state_run(&s, words, 3 * steps, budget, &done, &counts);
     return second_run(words, 3 * steps, budget, s.ds, SECOND_DS, s.a, SECOND_A, s.r, SECOND_R, s.c, SECOND_C, s.vc, SECOND_VC,
-                      s.v, SECOND_V, &done, &counts.accesses);
+                      s.v, SECOND_V, &done, &counts.accesses, &counts.clipped);
 }
 
 static void print_nanoseconds(const char *engine, size_t triples, const uint32_t *words, size_t steps, uint32_t budget)

@@ -72,7 +72,8 @@ struct vp1_parts {
 /* What a call counts. A count that is added later becomes a field at the end, and an argument of vp1_step, vp1_run, vp1_part and vp1_end: a program
    over vp1_state_step, vp1_state_run, vp1_state_part and vp1_parts_end, which are compiled with it, then needs no other change than to be compiled again. */
 struct vp1_counts {
-    uint64_t accesses;
+    uint64_t accesses; /* the cells that loads and stores entered */
+    uint64_t clipped;  /* of vadd, vsub, vneg, vabs and vadd9: the components whose true result lay outside the clip range */
 };
 
 #endif

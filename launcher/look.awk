@@ -231,11 +231,11 @@ function expected_line() {
         literal(3, "cell", "expected as in: bank 3 cell 16")
         a_number(4, 249, "expected a cell: 0 to 248")
         sixteen(5)
-    } else if (t[1] == "answer" || t[1] == "steps" || t[1] == "cells") {
+    } else if (t[1] == "answer" || t[1] == "steps" || t[1] == "cells" || t[1] == "clipped") {
         a_number(2, 4294967296, "expected a number")
         end_at(3)
     } else if (t[1] == "banks") banks()
-    else fault(t[1], "expected a register, row, column, bank, answer, steps, cells, banks or a dot line")
+    else fault(t[1], "expected a register, row, column, bank, answer, steps, cells, clipped, banks or a dot line")
     compared++
 }
 

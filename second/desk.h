@@ -101,14 +101,15 @@ struct step { uint32_t word, side, mask; };
 /* A thing that has a line in the last part of a run. The first four kinds are words. */
 enum kind {
     IN_A, IN_R, IN_C, IN_VC, IN_V,
-    A_ROW, A_COLUMN, A_BANK, EIGHT_CELLS, THE_ANSWER, THE_STEPS, THE_CELLS, THE_BANKS
+    A_ROW, A_COLUMN, A_BANK, EIGHT_CELLS,
+    THE_ANSWER, THE_STEPS, THE_CELLS, THE_CLIPPED, THE_BANKS
 };
 
 /* number: the register's, the address or the bank; more: the stride code or the cell. */
 struct thing { enum kind kind; uint32_t number, more; };
 
 /* What a thing is set to or expected to be: the bits of a word that are named, or
- * sixteen bytes, or numbers (of the answer, the steps and the cells only the first). */
+ * sixteen bytes, or numbers (of all but the banks only the first). */
 struct value { uint32_t word, bits; uint8_t bytes[16]; uint32_t numbers[BANKS]; };
 
 struct listing {
@@ -142,7 +143,7 @@ int read_listing(struct input *in, const char *command, const char *file,
 struct outcome {
     struct state state;
     uint32_t answer, steps;
-    uint64_t cells;
+    uint64_t cells, clipped;
     uint32_t banks[BANKS];
 };
 

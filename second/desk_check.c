@@ -38,8 +38,8 @@ static int read_count(struct line *line, enum kind kind, struct expectation *e)
 static int read_expectation(struct line *line, struct expectation *e)
 {
     static const struct { const char *name; enum kind kind; } counts[] = {
-        { "answer", THE_ANSWER }, { "steps", THE_STEPS },
-        { "cells", THE_CELLS }, { "banks", THE_BANKS },
+        { "answer", THE_ANSWER }, { "steps", THE_STEPS }, { "cells", THE_CELLS },
+        { "clipped", THE_CLIPPED }, { "banks", THE_BANKS },
     };
     struct text first = next_text(line);
 
@@ -55,7 +55,7 @@ static int read_expectation(struct line *line, struct expectation *e)
         if (is(first, counts[i].name))
             return read_count(line, counts[i].kind, e);
     return fault(line, first, "expected a register, row, column, bank, answer, steps, cells, "
-                              "banks or a dot line");
+                              "clipped, banks or a dot line");
 }
 
 /* ---- All of EXPECTED ---- */
@@ -133,6 +133,7 @@ static int holds(const struct expectation *e, const struct outcome *o)
     case THE_ANSWER: return o->answer == e->value.numbers[0];
     case THE_STEPS: return o->steps == e->value.numbers[0];
     case THE_CELLS: return o->cells == e->value.numbers[0];
+    case THE_CLIPPED: return o->clipped == e->value.numbers[0];
     case THE_BANKS: return memcmp(o->banks, e->value.numbers, sizeof o->banks) == 0;
     case A_BANK: break; /* a whole bank is shown, but never expected */
     }

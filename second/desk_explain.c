@@ -201,14 +201,16 @@ static void set_base(struct state *state, uint32_t word, uint32_t value)
         state->a[x.base] = value;
 }
 
-/* The step is done on a copy, for its answer and its cells. */
+/* The step is done on a copy, for its answer and its cells. What it clips depends on the
+ * registers, which hold nothing here, and is not shown. */
 static enum status show_explained(const struct step *step, const struct state *state)
 {
     static struct state after;
-    uint64_t cells;
+    uint64_t cells, clipped;
 
     after = *state;
-    uint32_t answer = second_step(step->word, step->side, step->mask, PIECES(&after), &cells);
+    uint32_t answer = second_step(step->word, step->side, step->mask, PIECES(&after), &cells,
+                                  &clipped);
     show_step(step);
     printf("\nword 0x%08" PRIx32 "\n", step->word);
     if (answer != SECOND_OTHER_UNIT && answer != SECOND_UNDOCUMENTED) {

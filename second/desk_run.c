@@ -59,13 +59,15 @@ static void show_verdict(const struct ahead *ahead)
     }
 }
 
-static void show_answer(uint32_t answer, uint64_t cells, const struct ahead *ahead)
+static void show_answer(uint32_t answer, uint64_t cells, uint64_t clipped,
+                        const struct ahead *ahead)
 {
     printf(": ");
     if (answer != SECOND_DONE) {
         show_refused(answer);
     } else {
-        printf("done, %" PRIu64 " cell%s", cells, cells == 1 ? "" : "s");
+        printf("done, %" PRIu64 " cell%s, %" PRIu64 " clipped", cells, cells == 1 ? "" : "s",
+               clipped);
         if (ahead->followed)
             show_verdict(ahead);
     }
@@ -203,15 +205,16 @@ static int do_step(const struct listing *listing, size_t i, int shown, struct ou
     static struct state old;
     const struct step *step = &listing->steps[i];
     struct ahead ahead;
-    uint64_t cells;
+    uint64_t cells, clipped;
 
     look_ahead(step, i + 1 < listing->n_steps, &o->state, &ahead);
     old = o->state;
-    o->answer = second_step(step->word, step->side, step->mask, PIECES(&o->state), &cells);
+    o->answer = second_step(step->word, step->side, step->mask, PIECES(&o->state), &cells,
+                            &clipped);
     if (shown) {
         printf("%zu: ", i + 1);
         show_step(step);
-        show_answer(o->answer, cells, &ahead);
+        show_answer(o->answer, cells, clipped, &ahead);
         show_changes(step->word, &ahead, &old, &o->state);
     }
     if (o->answer != SECOND_DONE)
@@ -219,6 +222,7 @@ static int do_step(const struct listing *listing, size_t i, int shown, struct ou
     enter_cells(&ahead, o->banks);
     o->steps++;
     o->cells += cells;
+    o->clipped += clipped;
     return 1;
 }
 
@@ -260,7 +264,9 @@ static void show_registers(enum kind kind, uint32_t count, const struct outcome 
 
 void show_last_part(const struct listing *listing, const struct outcome *outcome, int all)
 {
-    static const enum kind counts[] = { THE_ANSWER, THE_STEPS, THE_CELLS, THE_BANKS };
+    static const enum kind counts[] = {
+        THE_ANSWER, THE_STEPS, THE_CELLS, THE_CLIPPED, THE_BANKS
+    };
 
     show_registers(IN_A, SECOND_A, outcome, all);
     show_registers(IN_R, SECOND_R, outcome, all);

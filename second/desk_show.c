@@ -216,6 +216,7 @@ void show_thing(const struct thing *thing, const struct outcome *outcome)
         break;
     case THE_STEPS: printf("steps %" PRIu32 "\n", outcome->steps); break;
     case THE_CELLS: printf("cells %" PRIu64 "\n", outcome->cells); break;
+    case THE_CLIPPED: printf("clipped %" PRIu64 "\n", outcome->clipped); break;
     case THE_BANKS: show_banks(outcome->banks); break;
     }
 }

@@ -8,7 +8,7 @@ enum { TRIPLE = 12, LAST_ANSWER = SECOND_BUDGET };
 /* The run that the words tell. */
 struct run {
     uint32_t budget, over, answer, steps;
-    uint64_t accesses;
+    uint64_t accesses, clipped;
     uint32_t left; /* how many bytes are left over: these */
     uint8_t bytes[TRIPLE];
 };
@@ -40,10 +40,13 @@ static void stop(struct run *run, uint32_t answer)
 static struct run tell(const uint32_t *words)
 {
     struct run run = { .budget = words[0], .over = words[1] != 0, .steps = words[3], .left = words[6] };
+    uint64_t most; /* no step enters more cells, or clips more components, than 16 */
 
     run.answer = run.over ? words[2] : SECOND_DONE;
     run.accesses = words[4] + ((uint64_t)words[5] << 32);
-    if (run.steps > run.budget || run.accesses > 16 * (uint64_t)run.steps || run.left >= TRIPLE
+    run.clipped = words[10] + ((uint64_t)words[11] << 32);
+    most = 16 * (uint64_t)run.steps;
+    if (run.steps > run.budget || run.accesses > most || run.clipped > most || run.left >= TRIPLE
         || run.answer > LAST_ANSWER) {
         run = (struct run){ .budget = 0 };
         stop(&run, SECOND_BAD_LENGTH);
@@ -55,7 +58,8 @@ static struct run tell(const uint32_t *words)
 }
 
 /* Writes the run into the words, and its counts; returns its answer. */
-static uint32_t keep(const struct run *run, uint32_t *words, uint32_t *steps, uint64_t *accesses)
+static uint32_t keep(const struct run *run, uint32_t *words,
+                     uint32_t *steps, uint64_t *accesses, uint64_t *clipped)
 {
     for (int i = 0; i < SECOND_PARTS; i++)
         words[i] = 0;
@@ -68,8 +72,11 @@ static uint32_t keep(const struct run *run, uint32_t *words, uint32_t *steps, ui
     words[6] = run->left;
     for (uint32_t i = 0; i < run->left; i++)
         words[7 + i / 4] |= (uint32_t)run->bytes[i] << 8 * (i % 4);
+    words[10] = (uint32_t)run->clipped;
+    words[11] = (uint32_t)(run->clipped >> 32);
     *steps = run->steps;
     *accesses = run->accesses;
+    *clipped = run->clipped;
     return run->answer;
 }
 
@@ -82,7 +89,7 @@ static uint32_t word_at(const uint8_t *bytes)
 static void do_triple(struct run *run, const struct lent *p)
 {
     const uint8_t *b = run->bytes;
-    uint64_t cells;
+    uint64_t cells, clipped;
     uint32_t answer;
 
     run->left = 0;
@@ -91,45 +98,50 @@ static void do_triple(struct run *run, const struct lent *p)
         return;
     }
     answer = second_step(word_at(b), word_at(b + 4), word_at(b + 8), p->ds, p->nds, p->a, p->na,
-                         p->r, p->nr, p->c, p->nc, p->vc, p->nvc, p->v, p->nv, &cells);
+                         p->r, p->nr, p->c, p->nc, p->vc, p->nvc, p->v, p->nv, &cells, &clipped);
     if (answer != SECOND_DONE) {
         stop(run, answer);
         return;
     }
     run->steps++;
     run->accesses += cells;
+    run->clipped += clipped;
 }
 
 /* A list of no words is refused exactly for its pieces. */
 static int lengths_fit(const struct lent *p)
 {
     uint32_t steps;
-    uint64_t cells;
+    uint64_t cells, clipped;
 
     return second_run(NULL, 0, 0, p->ds, p->nds, p->a, p->na, p->r, p->nr, p->c, p->nc,
-                      p->vc, p->nvc, p->v, p->nv, &steps, &cells) == SECOND_DONE;
+                      p->vc, p->nvc, p->v, p->nv, &steps, &cells, &clipped) == SECOND_DONE;
 }
 
 uint32_t second_begin(uint32_t budget, uint32_t *run, size_t nrun)
 {
     struct run begun = { .budget = budget };
     uint32_t steps;
-    uint64_t accesses;
+    uint64_t accesses, clipped;
 
-    return nrun == SECOND_PARTS ? keep(&begun, run, &steps, &accesses) : SECOND_BAD_LENGTH;
+    if (nrun != SECOND_PARTS)
+        return SECOND_BAD_LENGTH;
+    return keep(&begun, run, &steps, &accesses, &clipped);
 }
 
 uint32_t second_part(const uint8_t *bytes, size_t nbytes,
                      uint8_t *ds, size_t nds, uint32_t *a, size_t na,
                      uint32_t *r, size_t nr, uint32_t *c, size_t nc,
                      uint32_t *vc, size_t nvc, uint8_t *v, size_t nv,
-                     uint32_t *run, size_t nrun, uint32_t *steps, uint64_t *accesses)
+                     uint32_t *run, size_t nrun,
+                     uint32_t *steps, uint64_t *accesses, uint64_t *clipped)
 {
     const struct lent p = { ds, nds, a, na, r, nr, c, nc, vc, nvc, v, nv };
     struct run now;
 
     *steps = 0;
     *accesses = 0;
+    *clipped = 0;
     if (nrun != SECOND_PARTS)
         return SECOND_BAD_LENGTH;
     now = tell(run);
@@ -140,19 +152,21 @@ uint32_t second_part(const uint8_t *bytes, size_t nbytes,
         if (now.left == TRIPLE)
             do_triple(&now, &p);
     }
-    return keep(&now, run, steps, accesses);
+    return keep(&now, run, steps, accesses, clipped);
 }
 
-uint32_t second_end(uint32_t *run, size_t nrun, uint32_t *steps, uint64_t *accesses)
+uint32_t second_end(uint32_t *run, size_t nrun,
+                    uint32_t *steps, uint64_t *accesses, uint64_t *clipped)
 {
     struct run now;
 
     *steps = 0;
     *accesses = 0;
+    *clipped = 0;
     if (nrun != SECOND_PARTS)
         return SECOND_BAD_LENGTH;
     now = tell(run);
     if (!now.over)
         stop(&now, now.left == 0 ? SECOND_DONE : SECOND_BAD_LIST);
-    return keep(&now, run, steps, accesses);
+    return keep(&now, run, steps, accesses, clipped);
 }

@@ -8,19 +8,20 @@ enum { WRONG_SHOWN = 64 };
 
 static enum status run_input(uint32_t budget)
 {
-    static const enum kind shown[] = { THE_ANSWER, THE_STEPS, THE_CELLS };
+    static const enum kind shown[] = { THE_ANSWER, THE_STEPS, THE_CELLS, THE_CLIPPED };
     static struct outcome o;
     uint32_t run[SECOND_PARTS];
     int byte;
 
     second_begin(budget, run, SECOND_PARTS);
     while ((byte = getchar()) != EOF)
-        second_part(&(uint8_t){ (uint8_t)byte }, 1, PIECES(&o.state), run, SECOND_PARTS, &o.steps, &o.cells);
+        second_part(&(uint8_t){ (uint8_t)byte }, 1, PIECES(&o.state), run, SECOND_PARTS,
+                    &o.steps, &o.cells, &o.clipped);
     if (ferror(stdin)) {
         fprintf(stderr, "pipe: -: cannot be read\n");
         return STATUS_INPUT;
     }
-    o.answer = second_end(run, SECOND_PARTS, &o.steps, &o.cells);
+    o.answer = second_end(run, SECOND_PARTS, &o.steps, &o.cells, &o.clipped);
     for (size_t i = 0; i < sizeof shown / sizeof shown[0]; i++)
         show_thing(&(struct thing){ shown[i], 0, 0 }, &o);
     return o.answer == SECOND_DONE ? STATUS_DONE : STATUS_FAILED;

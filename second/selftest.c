@@ -1,9 +1,9 @@
 /* selftest.c - checks the second simulator against document 01's ten examples, cases
  * of vclip made by hand, the four lines of the lab program, and, for every address and
  * code, against the address lists written out and counted; and the places and
- * exchanges against cases made by hand from the table; and the lines of names, in
- * selftest_lines.c, and lists in parts, in selftest_parts.c. Prints nothing and exits 0
- * if all is well. */
+ * exchanges against cases made by hand from the table; and the clipped components, in
+ * selftest_clipped.c, the lines of names, in selftest_lines.c, and lists in parts, in
+ * selftest_parts.c. Prints nothing and exits 0 if all is well. */
 #include "selftest.h"
 
 #include "vp1_second.h"
@@ -13,7 +13,7 @@
 
 static uint8_t ds[SECOND_DS], v[SECOND_V];
 static uint32_t a[SECOND_A], r[SECOND_R], c[SECOND_C], vc[SECOND_VC];
-static uint64_t accesses;
+static uint64_t accesses, clipped;
 static int failures;
 
 #define CHECK(cond) check((cond), #cond, __LINE__)
@@ -30,7 +30,7 @@ static void check(int ok, const char *text, int line)
 static uint32_t step(uint32_t word, uint32_t side, uint32_t mask)
 {
     return second_step(word, side, mask, ds, sizeof ds, a, SECOND_A, r, SECOND_R,
-                       c, SECOND_C, vc, SECOND_VC, v, sizeof v, &accesses);
+                       c, SECOND_C, vc, SECOND_VC, v, sizeof v, &accesses, &clipped);
 }
 
 static void clear(void)
@@ -267,9 +267,10 @@ static void examples_4_and_5(void)
 }
 
 /* One vector instruction on sixteen equal components: $v1 by $v2 into $v3, flags
- * into $vc0, which must come out alike for all sixteen. */
+ * into $vc0, which must come out alike for all sixteen; and whether they are out of
+ * the range that they are clipped to. */
 static void lanes(uint32_t op, uint32_t s1, uint32_t s2, uint32_t res,
-                  uint32_t sign, uint32_t zero)
+                  uint32_t sign, uint32_t zero, uint32_t out)
 {
     clear();
     memset(v + 16, (int)s1, 16);
@@ -278,15 +279,16 @@ static void lanes(uint32_t op, uint32_t s1, uint32_t s2, uint32_t res,
     for (int i = 0; i < 16; i++)
         CHECK(v[48 + i] == res);
     CHECK(vc[0] == sign * 0xffff + zero * 0xffff0000);
+    CHECK(clipped == 16 * out && accesses == 0);
 }
 
 static void examples_6_to_8(void)
 {
-    lanes(0x8c, 0x64, 0x64, 0x7f, 0, 0);
-    lanes(0x8b, 0x80, 0, 0x7f, 0, 0);
-    lanes(0x9d, 0, 1, 0, 1, 1);
-    lanes(0x9e, 0x80, 0x0f, 0, 0, 0);
-    lanes(0x8e, 0x80, 7, 0xff, 1, 0);
+    lanes(0x8c, 0x64, 0x64, 0x7f, 0, 0, 1); /* the 16 is document 02's, wish 4 */
+    lanes(0x8b, 0x80, 0, 0x7f, 0, 0, 1);
+    lanes(0x9d, 0, 1, 0, 1, 1, 1);
+    lanes(0x9e, 0x80, 0x0f, 0, 0, 0, 0);
+    lanes(0x8e, 0x80, 7, 0xff, 1, 0, 0);
 }
 
 static void example_9(void)
@@ -303,6 +305,7 @@ static void example_9(void)
     for (int i = 0; i < 16; i++)
         CHECK(v[48 + i] == 0);
     CHECK(vc[0] == 0xffff0000);
+    CHECK(clipped == 0);
 }
 
 static void example_10(void)
@@ -785,6 +788,7 @@ int main(void)
     exchanges_of_vector_registers();
     exchanges_of_accesses();
     refusals_of_exchanges();
+    failures += selftest_clipped();
     failures += selftest_lines();
     failures += selftest_parts();
     return failures == 0 ? 0 : 1;

@@ -2,7 +2,10 @@
 #ifndef SELFTEST_H
 #define SELFTEST_H
 
-/* Checks the lines of names. Returns how many checks failed, and says which. */
+/* Checks the counts of clipped components. Returns how many checks failed, and says which. */
+int selftest_clipped(void);
+
+/* The same of the lines of names. */
 int selftest_lines(void);
 
 /* The same of lists in parts. */

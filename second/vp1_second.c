@@ -276,6 +276,16 @@ INLINE void v_finish(const struct pieces *p, uint32_t w, vec res, vec sign, vec 
         p->vc[n] = top_bits(&sign) | zero_bits(&tested) << 16;
 }
 
+/* How many of sixteen bytes have their top bit set. A byte of the sum is at most 2, and
+ * the product adds all eight in its top byte, where 16 has room. */
+INLINE uint32_t count_tops(const vec *x)
+{
+    const uint64_t ones = 0x0101010101010101u;
+    uint64_t sum = (half(x, 0) >> 7 & ones) + (half(x, 1) >> 7 & ones);
+
+    return (uint32_t)(sum * ones >> 56);
+}
+
 /* A result whose sign flags are all clear. */
 INLINE void v_finish_unsigned(const struct pieces *p, uint32_t w, vec res)
 {
@@ -288,15 +298,13 @@ INLINE void v_finish_unsigned(const struct pieces *p, uint32_t w, vec res)
 
 /* ---- Vector arithmetic ----
  *
- * A true sum or difference fits sixteen bits, and is kept in them so that the
- * loops become loops over eight lanes at a time. */
+ * Whether a true sum or difference is out of range is worked out in bytes, or (vadd9)
+ * in sixteen bits, which it fits: so the loops become loops over many lanes at a time.
+ *
+ * The operations that clip return how many components they clipped: those whose true
+ * result is outside the range, so that an end of the range is none. */
 
 INLINE int16_t s8(uint8_t x) { return (int8_t)x; }
-
-INLINE uint8_t clip_s(int16_t t)
-{
-    return (uint8_t)(t < -128 ? -128 : t > 127 ? 127 : t);
-}
 
 INLINE uint8_t clip_u(int16_t t)
 {
@@ -337,43 +345,75 @@ INLINE void vmax_u(const struct pieces *p, uint32_t w, vec x, vec y)
 /* |x| is at most 128 and fits a byte; an absolute value is never negative. */
 INLINE uint8_t abs8(uint8_t x) { return (uint8_t)(x & 0x80 ? -x : x); }
 
-INLINE void vabs_s(const struct pieces *p, uint32_t w, vec x)
+/* Only 128 is out of range, the one absolute value that has its top bit set. */
+INLINE uint32_t vabs_s(const struct pieces *p, uint32_t w, vec x)
 {
-    for (int i = 0; i < 16; i++) {
-        uint8_t t = abs8(x.b[i]);
+    vec t;
 
-        x.b[i] = t > 127 ? 127 : t;
+    for (int i = 0; i < 16; i++) {
+        t.b[i] = abs8(x.b[i]);
+        x.b[i] = t.b[i] > 127 ? 127 : t.b[i];
     }
     v_finish_unsigned(p, w, x);
+    return count_tops(&t);
 }
 
 /* Only 128 is out of range and its flag is that of 127, so the flag of the true
  * result is the top bit of the clipped one. */
-INLINE void vneg_s(const struct pieces *p, uint32_t w, vec x)
+INLINE uint32_t vneg_s(const struct pieces *p, uint32_t w, vec x)
 {
-    for (int i = 0; i < 16; i++)
+    vec over;
+
+    for (int i = 0; i < 16; i++) {
+        over.b[i] = top_if(x.b[i] == 0x80);
         x.b[i] = (uint8_t)(x.b[i] == 0x80 ? 0x7f : -x.b[i]);
+    }
     v_finish(p, w, x, x, x);
+    return count_tops(&over);
 }
 
-/* A clipped signed result has the sign of the true one. */
-INLINE void vadd_s(const struct pieces *p, uint32_t w, vec x, vec y)
+/* A signed sum is out of range exactly where, cut to a byte, it has another sign than
+ * both sources; a difference, where the sources have different signs and it has another
+ * than the first. The true result then has the first source's sign. So has a clipped one,
+ * and the flag is taken from it. */
+INLINE uint8_t clip_s(uint8_t t, uint8_t over, uint8_t first)
 {
-    for (int i = 0; i < 16; i++)
-        x.b[i] = clip_s((int16_t)(s8(x.b[i]) + s8(y.b[i])));
-    v_finish(p, w, x, x, x);
+    uint8_t end = first & 0x80 ? 0x80 : 0x7f;
+
+    return over & 0x80 ? end : t;
 }
 
-INLINE void vsub_s(const struct pieces *p, uint32_t w, vec x, vec y)
+INLINE uint32_t vadd_s(const struct pieces *p, uint32_t w, vec x, vec y)
 {
-    for (int i = 0; i < 16; i++)
-        x.b[i] = clip_s((int16_t)(s8(x.b[i]) - s8(y.b[i])));
+    vec over;
+
+    for (int i = 0; i < 16; i++) {
+        uint8_t t = (uint8_t)(x.b[i] + y.b[i]);
+
+        over.b[i] = (x.b[i] ^ t) & (y.b[i] ^ t);
+        x.b[i] = clip_s(t, over.b[i], x.b[i]);
+    }
     v_finish(p, w, x, x, x);
+    return count_tops(&over);
+}
+
+INLINE uint32_t vsub_s(const struct pieces *p, uint32_t w, vec x, vec y)
+{
+    vec over;
+
+    for (int i = 0; i < 16; i++) {
+        uint8_t t = (uint8_t)(x.b[i] - y.b[i]);
+
+        over.b[i] = (x.b[i] ^ y.b[i]) & (x.b[i] ^ t);
+        x.b[i] = clip_s(t, over.b[i], x.b[i]);
+    }
+    v_finish(p, w, x, x, x);
+    return count_tops(&over);
 }
 
 /* Here the sign flag is the overflow: the sum cut to a byte is below a source
  * exactly when it ran over. */
-INLINE void vadd_u(const struct pieces *p, uint32_t w, vec x, vec y)
+INLINE uint32_t vadd_u(const struct pieces *p, uint32_t w, vec x, vec y)
 {
     vec over;
 
@@ -384,9 +424,10 @@ INLINE void vadd_u(const struct pieces *p, uint32_t w, vec x, vec y)
         x.b[i] = t | over.b[i];
     }
     v_finish(p, w, x, over, x);
+    return count_tops(&over);
 }
 
-INLINE void vsub_u(const struct pieces *p, uint32_t w, vec x, vec y)
+INLINE uint32_t vsub_u(const struct pieces *p, uint32_t w, vec x, vec y)
 {
     vec over;
 
@@ -395,6 +436,7 @@ INLINE void vsub_u(const struct pieces *p, uint32_t w, vec x, vec y)
         x.b[i] = (uint8_t)((x.b[i] - y.b[i]) & ~over.b[i]);
     }
     v_finish(p, w, x, over, x);
+    return count_tops(&over);
 }
 
 /* ---- The other vector operations ---- */
@@ -527,7 +569,7 @@ INLINE void vminabs(const struct pieces *p, uint32_t w)
     v_finish_unsigned(p, w, x);
 }
 
-INLINE void vadd9(const struct pieces *p, uint32_t w)
+INLINE uint32_t vadd9(const struct pieces *p, uint32_t w)
 {
     vec x = v_src1(p, w), over;
     uint16_t y[16]; /* source 2, then source 3, as sixteen-bit components */
@@ -537,10 +579,11 @@ INLINE void vadd9(const struct pieces *p, uint32_t w)
     for (int i = 0; i < 16; i++) {
         int16_t t = (int16_t)(x.b[i] + ((y[i] & 0x1ff) ^ 0x100) - 0x100);
 
-        over.b[i] = top_if((t < 0) | (t > 255));
+        over.b[i] = top_if(t >> 8 != 0); /* below 0, or above 255 */
         x.b[i] = clip_u(t);
     }
     v_finish(p, w, x, over, x);
+    return count_tops(&over);
 }
 
 INLINE void vcmpad(const struct pieces *p, uint32_t w, uint32_t mask)
@@ -650,19 +693,22 @@ INLINE uint32_t set_half(uint32_t reg, uint32_t w, uint32_t shift)
     return (reg & ~(0xffffu << shift)) | f_imm16(w) << shift;
 }
 
-/* Does one instruction and returns its answer; adds its cell accesses if it is done. */
+/* What the steps done have added up to. */
+struct counts { uint64_t accesses, clipped; };
+
+/* Does one instruction and returns its answer; adds what it counts if it is done. */
 static uint32_t exec(const struct pieces *p, uint32_t w, uint32_t side,
-                     uint32_t mask, uint64_t *accesses)
+                     uint32_t mask, struct counts *counts)
 {
-    uint32_t op = w >> 24, cells = 0;
+    uint32_t op = w >> 24, cells = 0, clipped = 0;
 
     switch (op) {
     case 0x88: vmin_s(p, w, v_src1(p, w), v_src2(p, w)); break;
     case 0x89: vmax_s(p, w, v_src1(p, w), v_src2(p, w)); break;
-    case 0x8a: vabs_s(p, w, v_src1(p, w)); break;
-    case 0x8b: vneg_s(p, w, v_src1(p, w)); break;
-    case 0x8c: vadd_s(p, w, v_src1(p, w), v_src2(p, w)); break;
-    case 0x8d: vsub_s(p, w, v_src1(p, w), v_src2(p, w)); break;
+    case 0x8a: clipped = vabs_s(p, w, v_src1(p, w)); break;
+    case 0x8b: clipped = vneg_s(p, w, v_src1(p, w)); break;
+    case 0x8c: clipped = vadd_s(p, w, v_src1(p, w), v_src2(p, w)); break;
+    case 0x8d: clipped = vsub_s(p, w, v_src1(p, w), v_src2(p, w)); break;
     case 0x8e: vsar(p, w, v_src1(p, w), v_src2(p, w)); break;
     case 0x8f:
         if (mask > 0x1ffff)
@@ -675,10 +721,10 @@ static uint32_t exec(const struct pieces *p, uint32_t w, uint32_t side,
     case 0x99: vmax_u(p, w, v_src1(p, w), v_src2(p, w)); break;
     case 0x9a: v_finish_unsigned(p, w, v_src1(p, w)); break; /* vabs u */
     case 0x9b: vswz(p, w); break;
-    case 0x9c: vadd_u(p, w, v_src1(p, w), v_src2(p, w)); break;
-    case 0x9d: vsub_u(p, w, v_src1(p, w), v_src2(p, w)); break;
+    case 0x9c: clipped = vadd_u(p, w, v_src1(p, w), v_src2(p, w)); break;
+    case 0x9d: clipped = vsub_u(p, w, v_src1(p, w), v_src2(p, w)); break;
     case 0x9e: vshr(p, w, v_src1(p, w), v_src2(p, w)); break;
-    case 0x9f: vadd9(p, w); break;
+    case 0x9f: clipped = vadd9(p, w); break;
 
     case 0xa4: vclip(p, w); break;
     case 0xa5: vminabs(p, w); break;
@@ -686,7 +732,7 @@ static uint32_t exec(const struct pieces *p, uint32_t w, uint32_t side,
     case 0xa9: vmax_s(p, w, v_src1(p, w), v_bimm(w)); break;
     case 0xaa: vand(p, w, v_src1(p, w), v_bimm(w)); break;
     case 0xab: vxor(p, w, v_src1(p, w), v_bimm(w)); break;
-    case 0xac: vadd_s(p, w, v_src1(p, w), v_bimm(w)); break;
+    case 0xac: clipped = vadd_s(p, w, v_src1(p, w), v_bimm(w)); break;
     case 0xad: v_finish(p, w, v_bimm(w), v_bimm(w), v_bimm(w)); break; /* vmov */
     case 0xae: vsar(p, w, v_src1(p, w), v_bimm(w)); break;
     case 0xaf: vor(p, w, v_src1(p, w), v_bimm(w)); break;
@@ -695,8 +741,8 @@ static uint32_t exec(const struct pieces *p, uint32_t w, uint32_t side,
     case 0xb9: vmax_u(p, w, v_src1(p, w), v_bimm(w)); break;
     case 0xba: v_finish_unsigned(p, w, v_src1(p, w)); break; /* mov */
     case 0xbb: mov_vc(p, w); break;
-    case 0xbc: vadd_u(p, w, v_src1(p, w), v_bimm(w)); break;
-    case 0xbd: vsub_u(p, w, v_src1(p, w), v_bimm(w)); break;
+    case 0xbc: clipped = vadd_u(p, w, v_src1(p, w), v_bimm(w)); break;
+    case 0xbd: clipped = vsub_u(p, w, v_src1(p, w), v_bimm(w)); break;
     case 0xbe: vshr(p, w, v_src1(p, w), v_bimm(w)); break;
     case 0xbf: break;
 
@@ -763,7 +809,8 @@ static uint32_t exec(const struct pieces *p, uint32_t w, uint32_t side,
     default:
         return op < 0x80 || op > 0xdf ? SECOND_OTHER_UNIT : SECOND_UNDOCUMENTED;
     }
-    *accesses += cells;
+    counts->accesses += cells;
+    counts->clipped += clipped;
     return SECOND_DONE;
 }
 
@@ -780,41 +827,46 @@ uint32_t second_step(uint32_t word, uint32_t side, uint32_t mask,
                      uint8_t *ds, size_t nds, uint32_t *a, size_t na,
                      uint32_t *r, size_t nr, uint32_t *c, size_t nc,
                      uint32_t *vc, size_t nvc, uint8_t *v, size_t nv,
-                     uint64_t *accesses)
+                     uint64_t *accesses, uint64_t *clipped)
 {
     const struct pieces p = { ds, a, r, c, vc, v };
+    struct counts counts = { 0, 0 };
+    uint32_t answer = SECOND_BAD_LENGTH;
 
-    *accesses = 0;
-    if (!lengths_fit(nds, na, nr, nc, nvc, nv))
-        return SECOND_BAD_LENGTH;
-    return exec(&p, word, side, mask, accesses);
+    if (lengths_fit(nds, na, nr, nc, nvc, nv))
+        answer = exec(&p, word, side, mask, &counts);
+    *accesses = counts.accesses;
+    *clipped = counts.clipped;
+    return answer;
 }
 
 uint32_t second_run(const uint32_t *words, size_t nwords, uint32_t budget,
                     uint8_t *ds, size_t nds, uint32_t *a, size_t na,
                     uint32_t *r, size_t nr, uint32_t *c, size_t nc,
                     uint32_t *vc, size_t nvc, uint8_t *v, size_t nv,
-                    uint32_t *steps, uint64_t *accesses)
+                    uint32_t *steps, uint64_t *accesses, uint64_t *clipped)
 {
     const struct pieces p = { ds, a, r, c, vc, v };
     size_t triples = nwords / 3;
     uint32_t most = triples < budget ? (uint32_t)triples : budget;
     uint32_t done = 0, answer = SECOND_DONE;
-    uint64_t cells = 0;
+    struct counts counts = { 0, 0 };
 
     *steps = 0;
     *accesses = 0;
+    *clipped = 0;
     if (!lengths_fit(nds, na, nr, nc, nvc, nv))
         return SECOND_BAD_LENGTH;
     if (nwords % 3 != 0)
         return SECOND_BAD_LIST;
     for (; done < most; done++, words += 3) {
-        answer = exec(&p, words[0], words[1], words[2], &cells);
+        answer = exec(&p, words[0], words[1], words[2], &counts);
         if (answer != SECOND_DONE)
             break;
     }
     *steps = done;
-    *accesses = cells;
+    *accesses = counts.accesses;
+    *clipped = counts.clipped;
     if (answer == SECOND_DONE && done < triples)
         answer = SECOND_BUDGET;
     return answer;

@@ -28,18 +28,21 @@ enum {
     SECOND_BUDGET = 7        /* the budget is spent, the list is not finished */
 };
 
-/* Both calls return the answer and always write their counts. */
+/* Both calls return the answer and always write their counts: the steps that a run did,
+ * the cells that they entered, and the components that they clipped. A component is
+ * clipped where the true result of vadd, vsub, vneg, vabs or vadd9 lay outside the range
+ * that it is clipped to; an end of the range is not outside. */
 uint32_t second_step(uint32_t word, uint32_t side, uint32_t mask,
                      uint8_t *ds, size_t nds, uint32_t *a, size_t na,
                      uint32_t *r, size_t nr, uint32_t *c, size_t nc,
                      uint32_t *vc, size_t nvc, uint8_t *v, size_t nv,
-                     uint64_t *accesses);
+                     uint64_t *accesses, uint64_t *clipped);
 
 uint32_t second_run(const uint32_t *words, size_t nwords, uint32_t budget,
                     uint8_t *ds, size_t nds, uint32_t *a, size_t na,
                     uint32_t *r, size_t nr, uint32_t *c, size_t nc,
                     uint32_t *vc, size_t nvc, uint8_t *v, size_t nv,
-                    uint32_t *steps, uint64_t *accesses);
+                    uint32_t *steps, uint64_t *accesses, uint64_t *clipped);
 
 /* ---- Lists in parts ---- */
 
@@ -56,9 +59,11 @@ uint32_t second_part(const uint8_t *bytes, size_t nbytes,
                      uint8_t *ds, size_t nds, uint32_t *a, size_t na,
                      uint32_t *r, size_t nr, uint32_t *c, size_t nc,
                      uint32_t *vc, size_t nvc, uint8_t *v, size_t nv,
-                     uint32_t *run, size_t nrun, uint32_t *steps, uint64_t *accesses);
+                     uint32_t *run, size_t nrun,
+                     uint32_t *steps, uint64_t *accesses, uint64_t *clipped);
 
-uint32_t second_end(uint32_t *run, size_t nrun, uint32_t *steps, uint64_t *accesses);
+uint32_t second_end(uint32_t *run, size_t nrun,
+                    uint32_t *steps, uint64_t *accesses, uint64_t *clipped);
 
 /* ---- Places ---- */
 

@@ -157,6 +157,55 @@ static void edge_nines(uint32_t *t)
     edge_vector(get(t, SRC1));
 }
 
+/* The ends of both ranges that results are clipped to, and one beyond each. */
+static int32_t end_value(void)
+{
+    static const int32_t values[] = {-129, -128, -1, 0, 127, 128, 255, 256};
+
+    return ONE_OF(values);
+}
+
+/* Sums on such a value: of source 1 and BIMM, and of sources 1 and 2. A byte that is 256 more or less than was asked for comes to another of them. */
+static void sums_at_ends(uint32_t *t)
+{
+    uint8_t first[16], second[16];
+
+    for (int i = 0; i < 16; i++) {
+        first[i] = (uint8_t)(end_value() - (int32_t)get(t, BIMM));
+        second[i] = (uint8_t)(end_value() - first[i]);
+    }
+    poke_vector(get(t, SRC1), first);
+    poke_vector(get(t, SRC2), second);
+}
+
+/* The same of differences. */
+static void differences_at_ends(uint32_t *t)
+{
+    uint8_t first[16], second[16];
+
+    for (int i = 0; i < 16; i++) {
+        first[i] = (uint8_t)(end_value() + (int32_t)get(t, BIMM));
+        second[i] = (uint8_t)(first[i] - end_value());
+    }
+    poke_vector(get(t, SRC1), first);
+    poke_vector(get(t, SRC2), second);
+}
+
+/* The same of negations and absolute values, and of sums with sixteen-bit components. */
+static void nines_at_ends(uint32_t *t)
+{
+    uint8_t first[16];
+    uint16_t words[16];
+
+    for (int i = 0; i < 16; i++) {
+        first[i] = (uint8_t)-end_value();
+        words[i] = (uint16_t)(end_value() - first[i]);
+    }
+    poke_vector(get(t, SRC1), first);
+    poke_vector(get(t, SRC2), (const uint8_t *)words);
+    poke_vector(get(t, SRC3), (const uint8_t *)(words + 8));
+}
+
 /* Each count, and bytes of one bit. */
 static void counts(uint32_t *t)
 {
@@ -177,6 +226,7 @@ static void (*const bends[BENDS])(uint32_t *) = {
     side_32,     edge_side,   mask_above,  edge_mask,   mask_valid,      mask_absent,  all_bits,    no_bits,
     edge_uimm,   edge_bimm,   near_addr,   near_uimm,   edge_bases,      addr_at_end,  edge_words,  sum_is_zero,
     edge_flags,  edge_bytes,  all_one,     near_bytes,  near_difference, edge_nines,   counts,      no_bend,
+    sums_at_ends, differences_at_ends, nines_at_ends,
 };
 
 void bend(uint32_t *triple, unsigned long k) { bends[k % BENDS](triple); }

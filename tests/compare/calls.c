@@ -32,8 +32,8 @@ static uint32_t of_ours(const struct asked *q, struct room *room, struct outcome
     const size_t *n = q->lent.n;
 
     switch (q->call) {
-    case STEP: return vp1_step(FIRST, LENT, &o->accesses);
-    case RUN: return vp1_run(w, q->count, q->budget, LENT, &o->count[0].n, &o->accesses);
+    case STEP: return vp1_step(FIRST, LENT, &o->accesses, &o->clipped);
+    case RUN: return vp1_run(w, q->count, q->budget, LENT, &o->count[0].n, &o->accesses, &o->clipped);
     case PLACES: return vp1_places(FIRST, LENT, o->buffer, q->buffer, &o->count[0].n, &o->count[1].n);
     default: return vp1_may_swap(FIRST, SECOND, LENT, &o->count[0].n, &o->count[1].n, &o->count[2].n);
     }
@@ -45,8 +45,8 @@ static uint32_t of_theirs(const struct asked *q, struct room *room, struct outco
     const size_t *n = q->lent.n;
 
     switch (q->call) {
-    case STEP: return second_step(FIRST, LENT, &o->accesses);
-    case RUN: return second_run(w, q->count, q->budget, LENT, &o->count[0].n, &o->accesses);
+    case STEP: return second_step(FIRST, LENT, &o->accesses, &o->clipped);
+    case RUN: return second_run(w, q->count, q->budget, LENT, &o->count[0].n, &o->accesses, &o->clipped);
     case PLACES: return second_places(FIRST, LENT, o->buffer, q->buffer, &o->count[0].n, &o->count[1].n);
     default: return second_may_swap(FIRST, SECOND, LENT, &o->count[0].n, &o->count[1].n, &o->count[2].n);
     }
@@ -67,8 +67,8 @@ static int untouched(const void *bytes, size_t n)
 /* Whether the guards of the numbers kept what they held. */
 static int numbers_whole(const struct outcome *o)
 {
-    if (!untouched(&o->guard, sizeof o->guard) || !untouched(&o->wide_guard, sizeof o->wide_guard) ||
-        !untouched(o->last_guard, sizeof o->last_guard))
+    if (!untouched(&o->guard, sizeof o->guard) || !untouched(&o->accesses_guard, sizeof o->accesses_guard) ||
+        !untouched(&o->clipped_guard, sizeof o->clipped_guard) || !untouched(o->last_guard, sizeof o->last_guard))
         return 0;
     for (int i = 0; i < COUNTS; i++)
         if (!untouched(&o->count[i].guard, sizeof o->count[i].guard))

@@ -35,7 +35,7 @@ enum { UNTOUCHED = 0xdd, COUNTS = 3 };
 
 struct outcome {
     uint32_t answer, guard;
-    uint64_t accesses, wide_guard;
+    uint64_t accesses, accesses_guard, clipped, clipped_guard;
     struct {
         uint32_t n, guard;
     } count[COUNTS]; /* RUN: steps; PLACES: reads, writes; SWAP: clash, place, writer */

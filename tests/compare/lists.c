@@ -5,8 +5,10 @@
 #include "parts.h"
 #include "report.h"
 #include "triples.h"
+#include <inttypes.h>
+#include <stdio.h>
 
-enum { LISTS = 32768, LONG = 512, LONGEST = 70000 };
+enum { LISTS = 32768, LONG = 512, LONGEST = 100000 };
 
 static uint32_t words[3 * LONGEST + 2];
 
@@ -42,7 +44,7 @@ static struct asked draw_list(uint32_t n)
 static int sum_of_steps(const struct asked *q, struct outcome *sum)
 {
     struct outcome said = {.answer = VP1_DONE};
-    uint64_t accesses = 0;
+    uint64_t accesses = 0, clipped = 0;
     uint32_t steps = 0;
 
     for (; said.answer == VP1_DONE && steps < q->budget && 3 * (size_t)steps < q->count; steps++) {
@@ -51,12 +53,14 @@ static int sum_of_steps(const struct asked *q, struct outcome *sum)
         if (!ask(&one, 1, &said))
             return 0;
         accesses += said.accesses;
+        clipped += said.clipped;
     }
     if (said.answer != VP1_DONE)
         steps--;
     not_written(sum);
     sum->answer = said.answer == VP1_DONE && 3 * (size_t)steps < q->count ? VP1_SPENT : said.answer;
     sum->accesses = accesses;
+    sum->clipped = clipped;
     sum->count[0].n = steps;
     return 1;
 }
@@ -76,31 +80,35 @@ static int by_steps(const struct asked *q, const struct outcome *run)
     return 0;
 }
 
-static int list(const struct asked *q)
+/* One list, by the list call and step by step; what the list call said. */
+static int list(const struct asked *q, struct outcome *said)
 {
-    struct outcome said;
-
-    if (!ask(q, 0, &said))
+    if (!ask(q, 0, said))
         return 0;
-    if (said.answer != VP1_LENGTHS && said.answer != VP1_RAGGED && !by_steps(q, &said))
+    if (said->answer != VP1_LENGTHS && said->answer != VP1_RAGGED && !by_steps(q, said))
         return 0;
     go_on();
     return 1;
 }
 
-/* Lists whose steps and accesses do not fit sixteen bits. */
+/* Lists whose steps, accesses and clipped components do not fit sixteen bits. */
 static int longest_lists(void)
 {
     static const uint32_t budgets[] = {LONGEST, LONGEST - 1, 0xffffffff};
     struct asked q = {.call = RUN, .words = words, .count = 3 * LONGEST, .lent = right};
+    struct outcome said;
 
     for (unsigned long j = 0; j < share(3); j++) {
         next_case();
         for (uint32_t i = 0; i < LONGEST; i++)
             draw_triple(words + TRIPLE * i, list_opcode());
         q.budget = budgets[j];
-        if (!list(&q))
+        if (!list(&q, &said))
             return 0;
+        if (said.accesses < 0x10000 || said.clipped < 0x10000) {
+            printf("compare: a longest list counts too little: accesses %" PRIu64 ", clipped %" PRIu64 "\n", said.accesses, said.clipped);
+            return 0;
+        }
     }
     return 1;
 }
@@ -109,12 +117,13 @@ int lists(void)
 {
     for (unsigned long j = 0; j < share(LISTS); j++) {
         struct asked q;
+        struct outcome said;
 
         if (j % 64 == 0)
             redraw_all();
         next_case();
         q = draw_list(j % 256 == 7 ? below(LONG + 1) : below(24));
-        if (!list(&q))
+        if (!list(&q, &said))
             return 0;
     }
     return longest_lists();

@@ -23,6 +23,7 @@ static const struct {
     {"places", "lists of places", places},
     {"pairs", "pairs of triples, and both orders of the free ones", pairs},
     {"ends", "steps of vclip: every byte between every two ends", ends},
+    {"sums", "steps of vadd, vsub, vneg, vabs and vadd9: every two values", sums},
 };
 
 enum { PARTS = sizeof parts / sizeof parts[0] };

@@ -10,7 +10,7 @@
 #include <stdio.h>
 #include <string.h>
 
-/* So many steps of each opcode that ENOUGH are done and not refused: at most two bends of 32 make refused ones. */
+/* So many steps of each opcode that ENOUGH are done and not refused: at most two bends of 35 make refused ones. */
 enum { EACH = 21504, ENOUGH = 20000 };
 
 static void refresh_vector(size_t n) { below(4) ? draw_vector(n) : edge_vector(n); }

@@ -11,6 +11,7 @@ int lists(void);
 int places(void);
 int pairs(void);
 int ends(void);
+int sums(void);
 
 /* Prints how many pairs were free, and how many clashed at each kind of place; returns 0 where there is none of a kind that can occur. */
 int print_pairs(void);
@@ -26,7 +27,7 @@ void refresh(const uint32_t *triple);
 int step_on(const uint32_t *triple);
 
 /* Bends a triple, and the state, towards what drawn numbers seldom reach: one of BENDS ways, by k. */
-enum { BENDS = 32 };
+enum { BENDS = 35 };
 void bend(uint32_t *triple, unsigned long k);
 
 #endif

@@ -48,7 +48,7 @@ static void differs_in(const char *name)
 
 static int number_guards_alike(const struct outcome *x, const struct outcome *y)
 {
-    int same = x->guard == y->guard && x->wide_guard == y->wide_guard;
+    int same = x->guard == y->guard && x->accesses_guard == y->accesses_guard && x->clipped_guard == y->clipped_guard;
 
     for (int i = 0; i < COUNTS; i++)
         same = same && x->count[i].guard == y->count[i].guard;
@@ -61,6 +61,8 @@ static void name_numbers(enum call call, const struct outcome *x, const struct o
         differs_in("answer");
     if (x->accesses != y->accesses)
         differs_in("accesses");
+    if (x->clipped != y->clipped)
+        differs_in("clipped");
     for (int i = 0; i < COUNTS; i++)
         if (x->count[i].n != y->count[i].n)
             differs_in(count_names[call][i] ? count_names[call][i] : "a number that is not written");
@@ -129,7 +131,7 @@ static void print_numbers(const struct asked *q, struct side s)
 
     printf("%s: answer %" PRIu32, s.name, o->answer);
     if (q->call == STEP || q->call == RUN)
-        printf(", accesses %" PRIu64, o->accesses);
+        printf(", accesses %" PRIu64 ", clipped %" PRIu64, o->accesses, o->clipped);
     for (int i = 0; i < COUNTS && count_names[q->call][i]; i++)
         printf(", %s %" PRIu32, count_names[q->call][i], o->count[i].n);
     if (q->call == PLACES) {
@@ -179,15 +181,22 @@ static void print_guards(struct side s)
     }
 }
 
-/* The same of the guards between the numbers. */
+/* The same of the guard behind a number of 64 bits. */
+static void print_wide_guard(const char *side, const char *number, uint64_t now)
+{
+    if (now != (uint64_t)unwritten * 0x100000001u)
+        printf("  %s, guard behind %s: before %08" PRIx32 " twice, now %016" PRIx64 "\n", side, number, unwritten, now);
+}
+
+/* The same of all guards between the numbers. */
 static void print_number_guards(struct side s)
 {
     const struct outcome *o = s.said;
 
     if (o->guard != unwritten)
         printf("  %s, guard before accesses: before %08" PRIx32 ", now %08" PRIx32 "\n", s.name, unwritten, o->guard);
-    if (o->wide_guard != (uint64_t)unwritten * 0x100000001u)
-        printf("  %s, guard behind accesses: before %08" PRIx32 " twice, now %016" PRIx64 "\n", s.name, unwritten, o->wide_guard);
+    print_wide_guard(s.name, "accesses", o->accesses_guard);
+    print_wide_guard(s.name, "clipped", o->clipped_guard);
     for (int i = 0; i < COUNTS; i++)
         if (o->count[i].guard != unwritten)
             printf("  %s, guard behind count %d: before %08" PRIx32 ", now %08" PRIx32 "\n", s.name, i, unwritten, o->count[i].guard);

@@ -17,12 +17,15 @@ static uint32_t one_of_six(uint32_t first)
 
 uint32_t list_opcode(void)
 {
+    static const uint8_t clipping[] = {0x8a, 0x8b, 0x8c, 0x8d, 0x9c, 0x9d, 0x9f, 0xac, 0xbc, 0xbd};
+
     switch (below(8)) {
     case 0: return 0xd8 + below(3);
     case 1: return 0xdc + below(3);
     case 2: return 0xca + below(4);
     case 3: return one_of_six(0xc0);
     case 4: return one_of_six(0xc4);
+    case 5: return ONE_OF(clipping);
     default: return ONE_OF(documented);
     }
 }

@@ -4,7 +4,8 @@
 
 #include <stdint.h>
 
-/* Three of eight triples are of the vector unit, five load, store or add: all opcodes alike would seldom store what is loaded. */
+/* Five of eight triples load, store or add, one clips sums and the like, two are of any opcode: all opcodes alike would
+   seldom store what is loaded, and clip little. */
 uint32_t list_opcode(void);
 
 /* Makes a triple one that is refused with 1, 2, 3 or 4, or is of any opcode. */

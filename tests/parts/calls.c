@@ -13,7 +13,8 @@ const size_t right[PIECES] = {[DS] = VP1_DS, [A] = VP1_A, [R] = VP1_R, [C] = VP1
 
 #define LENT(s, n)                                                                                                                         \
     (s)->room.ds, (n)[DS], (s)->room.a, (n)[A], (s)->room.r, (n)[R], (s)->room.c, (n)[C], (s)->room.vc, (n)[VC], (s)->room.v, (n)[V]
-#define RUN_AND_COUNTS s->run.w, q->words, &s->said.steps, &s->said.accesses
+#define COUNTS(s) &(s)->said.steps, &(s)->said.accesses, &(s)->said.clipped
+#define RUN_AND_COUNTS s->run.w, q->words, COUNTS(s)
 
 static uint8_t *lent_bytes(const struct asked *q, struct side *s) { return s->page + GUARD + q->shift; }
 
@@ -58,7 +59,7 @@ static int numbers_whole(const struct said *o)
 {
     const uint64_t word = 0x0101010101010101u * UNTOUCHED;
 
-    return o->guard0 == (uint32_t)word && o->guard1 == (uint32_t)word && o->guard2 == word && o->guard3 == word;
+    return o->guard0 == (uint32_t)word && o->guard1 == (uint32_t)word && o->guard2 == word && o->guard3 == word && o->guard4 == word;
 }
 
 /* All guards that were lent, and the words behind those of the run. */
@@ -80,19 +81,37 @@ static int bytes_whole(const struct asked *q, struct side *s)
 
 /* ---- What our engine is held to by itself ---- */
 
-static uint64_t accesses_of(const uint32_t *w) { return w[4] | (uint64_t)w[5] << 32; }
+uint64_t count_at(const uint32_t *words, int at) { return words[at] | (uint64_t)words[at + 1] << 32; }
+
+void set_count(uint32_t *words, int at, uint64_t n)
+{
+    words[at] = (uint32_t)n;
+    words[at + 1] = (uint32_t)(n >> 32);
+}
 
 /* Whether the words have the form that docs/PARTS.md gives. */
 static int well_formed(const uint32_t *w)
 {
-    int good = w[1] <= 1 && w[2] <= VP1_SPENT && (w[1] == 1 || w[2] == 0) && w[3] <= w[0] && accesses_of(w) <= 16 * (uint64_t)w[3] &&
-               w[6] <= 11;
+    uint64_t most = 16 * (uint64_t)w[3];
+    int good = w[1] <= 1 && w[2] <= VP1_SPENT && (w[1] == 1 || w[2] == 0) && w[3] <= w[0] && count_at(w, ACCESSES_AT) <= most &&
+               count_at(w, CLIPPED_AT) <= most && w[6] <= 11;
 
     for (uint32_t i = w[6]; good && i < 12; i++)
         good = (w[7 + i / 4] >> 8 * (i % 4) & 0xff) == 0;
-    for (int i = 10; i < VP1_PARTS; i++)
+    for (int i = 12; i < VP1_PARTS; i++)
         good = good && w[i] == 0;
     return good;
+}
+
+/* Whether these counts are what was said. */
+static int said_counts(const struct side *s, uint32_t steps, uint64_t accesses, uint64_t clipped)
+{
+    return s->said.steps == steps && s->said.accesses == accesses && s->said.clipped == clipped;
+}
+
+static int said_what_words_tell(const struct side *s, const uint32_t *w)
+{
+    return s->said.answer == w[2] && said_counts(s, w[3], count_at(w, ACCESSES_AT), count_at(w, CLIPPED_AT));
 }
 
 /* Whether the words have that form, and tell what was answered. */
@@ -100,11 +119,11 @@ static int formed(const struct asked *q, const struct side *s)
 {
     const uint32_t *w = s->run.w;
 
-    if (!well_formed(w) || w[2] != s->said.answer)
+    if (!well_formed(w))
         return 0;
     if (q->call == BEGIN)
-        return w[0] == q->budget && w[1] == 0 && w[3] == 0 && w[6] == 0;
-    return w[3] == s->said.steps && accesses_of(w) == s->said.accesses;
+        return s->said.answer == VP1_DONE && w[0] == q->budget && w[1] == 0 && w[3] == 0 && w[6] == 0;
+    return said_what_words_tell(s, w);
 }
 
 /* Whether such words tell a run that is over: then nothing may change any more. */
@@ -125,11 +144,10 @@ static int stayed(const struct asked *q, const struct side *s, const struct run_
         return 0;
     if (q->words != VP1_PARTS)
         return s->said.answer == VP1_LENGTHS && memcmp(s->run.w, before->w, sizeof before->w) == 0 &&
-               (q->call == BEGIN || (s->said.steps == 0 && s->said.accesses == 0));
+               (q->call == BEGIN || said_counts(s, 0, 0, 0));
     if (q->call == BEGIN || !over(before))
         return 1;
-    return s->said.answer == before->w[2] && s->said.steps == before->w[3] && s->said.accesses == accesses_of(before->w) &&
-           memcmp(s->run.w, before->w, sizeof before->w) == 0;
+    return said_what_words_tell(s, before->w) && memcmp(s->run.w, before->w, sizeof before->w) == 0;
 }
 
 /* ---- The comparison ---- */
@@ -144,6 +162,8 @@ static unsigned compare_sides(const struct side *x, const struct side *y)
         wrong |= BIT(STEPS);
     if (x->said.accesses != y->said.accesses)
         wrong |= BIT(ACCESSES);
+    if (x->said.clipped != y->said.clipped)
+        wrong |= BIT(CLIPPED);
     for (int p = 0; p < PIECES; p++)
         if (!piece_alike(&x->room, &y->room, (enum piece)p))
             wrong |= BIT(DS_WRONG + p);
@@ -199,8 +219,8 @@ int as_one_list(const uint32_t *words, size_t count, uint32_t budget, int ragged
 
     copy_room(&x->room, &rooms[BEFORE]);
     copy_room(&y->room, &rooms[BEFORE]);
-    x->said.answer = vp1_run(words, count, budget, LENT(x, right), &x->said.steps, &x->said.accesses);
-    y->said.answer = second_run(words, count, budget, LENT(y, right), &y->said.steps, &y->said.accesses);
+    x->said.answer = vp1_run(words, count, budget, LENT(x, right), COUNTS(x));
+    y->said.answer = second_run(words, count, budget, LENT(y, right), COUNTS(y));
     if (ragged && x->said.answer == VP1_DONE)
         x->said.answer = VP1_RAGGED;
     if (ragged && y->said.answer == VP1_DONE)

@@ -14,10 +14,10 @@ enum call { BEGIN, PART, END, CALLS };
 extern const size_t right[PIECES];
 
 /* The library takes bytes up through a buffer of so many triples, behind the first triple of a part. */
-enum { BLOCK = 128, BLOCK_BYTES = 12 * BLOCK };
+enum { BLOCK = 160, BLOCK_BYTES = 12 * BLOCK };
 
 /* The most bytes of a part; at how many neighbouring places they may begin; and the most words that are lent for the run. */
-enum { MOST = 16384, SHIFTS = 16, LONGEST_RUN = 32 };
+enum { MOST = 20480, SHIFTS = 16, LONGEST_RUN = 32 };
 
 /* What is asked. The pieces and bytes are lent for a part alone. */
 struct asked {
@@ -33,7 +33,7 @@ enum { UNTOUCHED = 0xdd };
 
 struct said {
     uint32_t answer, guard0, steps, guard1;
-    uint64_t guard2, accesses, guard3;
+    uint64_t guard2, accesses, guard3, clipped, guard4;
 };
 
 struct run_room {
@@ -59,6 +59,7 @@ enum wrong {
     ANSWER,
     STEPS,
     ACCESSES,
+    CLIPPED,
     DS_WRONG,
     RUN_WORDS = DS_WRONG + PIECES,
     GUARDS,
@@ -70,6 +71,11 @@ enum wrong {
     WRONGS
 };
 #define BIT(wrong) (1u << (wrong))
+
+/* The word of a run's count of 64 bits that has its low half; the high half is in the next one. */
+enum { ACCESSES_AT = 4, CLIPPED_AT = 10 };
+uint64_t count_at(const uint32_t *words, int at);
+void set_count(uint32_t *words, int at, uint64_t n);
 
 /* Makes the call of the second engine, without a slip, and writes down what it said. */
 void of_second(const struct asked *q, struct side *s);

@@ -33,7 +33,7 @@ enum kind {
 };
 
 /* The most numbers in a row; how many the row of odd words has. */
-enum { NUMBERS = 24, ODD = 19 };
+enum { NUMBERS = 24, ODD = 24 };
 
 /* Other numbers of words than the right one. */
 enum { OTHERS = 4 };

@@ -16,7 +16,7 @@ static const struct {
     int (*run)(void);
 } parts[] = {
     {"cuts", "lists, cut in all ways", cuts},
-    {"borders", "long lists, cut and stopped around multiples of 128 triples", borders},
+    {"borders", "long lists, cut and stopped around multiples of 160 triples", borders},
     {"lengths", "runs with a wrong length of a piece", lengths},
     {"words", "runs with words of another number, or with words that were changed", words},
     {"copies", "runs that were copied, and both carried on", copies},

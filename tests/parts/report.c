@@ -16,6 +16,7 @@ static const char *const wrong_names[WRONGS] = {
     [ANSWER] = "answer",
     [STEPS] = "steps",
     [ACCESSES] = "accesses",
+    [CLIPPED] = "clipped",
     [DS_WRONG] = "ds",
     [DS_WRONG + A] = "a",
     [DS_WRONG + R] = "r",
@@ -123,7 +124,8 @@ static void print_words(const char *name, const uint32_t *w)
 
 static void print_said(const char *name, const struct side *s)
 {
-    printf("%s: answer %" PRIu32 ", steps %" PRIu32 ", accesses %" PRIu64 "\n", name, s->said.answer, s->said.steps, s->said.accesses);
+    printf("%s: answer %" PRIu32 ", steps %" PRIu32 ", accesses %" PRIu64 ", clipped %" PRIu64 "\n", name, s->said.answer, s->said.steps,
+           s->said.accesses, s->said.clipped);
     print_words("words", s->run.w);
 }
 

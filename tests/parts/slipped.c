@@ -23,6 +23,11 @@ static void clear(struct side *s, int from, int to)
         s->run.w[i] = 0;
 }
 
+static void clear_count(struct side *s, int at) { clear(s, at, at + 1); }
+
+/* The steps too. */
+static void clear_counts(struct side *s) { clear(s, 3, 3), clear_count(s, ACCESSES_AT), clear_count(s, CLIPPED_AT); }
+
 /* Makes the run one that is over, and says so. */
 static void stop(struct side *s, uint32_t answer)
 {
@@ -155,7 +160,7 @@ static void five_before_kept(const struct asked *q, struct side *s)
 static void five_without_counts(const struct asked *q, struct side *s)
 {
     if (brings_5(q, s))
-        clear(s, 3, 5);
+        clear_counts(s);
     of_second(q, s);
 }
 
@@ -212,7 +217,7 @@ static void never_6(const struct asked *q, struct side *s)
 static void six_without_counts(const struct asked *q, struct side *s)
 {
     if (q->call == END && !is_over(s) && s->run.w[6] != 0)
-        clear(s, 3, 5);
+        clear_counts(s);
     of_second(q, s);
 }
 
@@ -229,19 +234,19 @@ static void end_forgets_left_over(const struct asked *q, struct side *s)
 static void budget_anew(const struct asked *q, struct side *s)
 {
     uint32_t *w = s->run.w, steps = w[3];
-    uint64_t accesses = w[4] | (uint64_t)w[5] << 32;
+    uint64_t accesses = count_at(w, ACCESSES_AT), clipped = count_at(w, CLIPPED_AT);
 
     if (is_over(s))
-        steps = 0, accesses = 0;
+        steps = 0, accesses = clipped = 0;
     else
-        clear(s, 3, 5);
+        clear_counts(s);
     of_second(q, s);
     s->said.steps += steps;
     s->said.accesses += accesses;
+    s->said.clipped += clipped;
     w[3] += steps;
-    accesses += w[4] | (uint64_t)w[5] << 32;
-    w[4] = (uint32_t)accesses;
-    w[5] = (uint32_t)(accesses >> 32);
+    set_count(w, ACCESSES_AT, count_at(w, ACCESSES_AT) + accesses);
+    set_count(w, CLIPPED_AT, count_at(w, CLIPPED_AT) + clipped);
 }
 
 static void budget_per_part(const struct asked *q, struct side *s)
@@ -416,24 +421,32 @@ static void more_steps(const struct asked *q, struct side *s)
     of_second(q, s);
 }
 
-static void more_accesses(const struct asked *q, struct side *s)
+/* One more than the bound of a count is taken for the bound. */
+static void one_more(const struct asked *q, struct side *s, int at)
 {
-    if (q->words == VP1_PARTS && q->call != BEGIN && s->run.w[4] == 16 * s->run.w[3] + 1)
-        s->run.w[4]--;
+    if (q->words == VP1_PARTS && q->call != BEGIN && s->run.w[at] == 16 * s->run.w[3] + 1)
+        s->run.w[at]--;
     of_second(q, s);
 }
 
-static void bound_in_32_bits(const struct asked *q, struct side *s)
+static void more_accesses(const struct asked *q, struct side *s) { one_more(q, s, ACCESSES_AT); }
+static void more_clipped(const struct asked *q, struct side *s) { one_more(q, s, CLIPPED_AT); }
+
+/* A count is held to its bound by its low half. */
+static void bound_in_32_bits(const struct asked *q, struct side *s, int at, uint64_t *said)
 {
-    uint32_t *w = s->run.w, high = w[5];
-    int cut = q->words == VP1_PARTS && q->call != BEGIN && high > 0 && high < 16 && w[3] <= w[0] && w[4] <= 16 * w[3];
+    uint32_t *w = s->run.w, high = w[at + 1];
+    int cut = q->words == VP1_PARTS && q->call != BEGIN && high > 0 && high < 16 && w[3] <= w[0] && w[at] <= 16 * w[3];
 
     if (cut)
-        w[5] = 0;
+        w[at + 1] = 0;
     of_second(q, s);
     if (cut)
-        w[5] = high, s->said.accesses += (uint64_t)high << 32;
+        w[at + 1] = high, *said += (uint64_t)high << 32;
 }
+
+static void low_bits_of_accesses(const struct asked *q, struct side *s) { bound_in_32_bits(q, s, ACCESSES_AT, &s->said.accesses); }
+static void low_bits_of_clipped(const struct asked *q, struct side *s) { bound_in_32_bits(q, s, CLIPPED_AT, &s->said.clipped); }
 
 static void not_refused_with_5(const struct asked *q, struct side *s)
 {
@@ -442,6 +455,56 @@ static void not_refused_with_5(const struct asked *q, struct side *s)
     if (impossible)
         clear(s, 0, 15);
     of_second(q, s);
+}
+
+/* ---- The clipped components alone ---- */
+
+static void begins_with_clipped(const struct asked *q, struct side *s)
+{
+    uint32_t low = s->run.w[CLIPPED_AT];
+
+    of_second(q, s);
+    if (q->call == BEGIN && q->words == VP1_PARTS)
+        s->run.w[CLIPPED_AT] = low;
+}
+
+static void clipped_of_this_part(const struct asked *q, struct side *s)
+{
+    if (q->call == PART && q->words == VP1_PARTS && !is_over(s))
+        clear_count(s, CLIPPED_AT);
+    of_second(q, s);
+}
+
+static void five_without_clipped(const struct asked *q, struct side *s)
+{
+    if (brings_5(q, s))
+        clear_count(s, CLIPPED_AT);
+    of_second(q, s);
+}
+
+static void refusal_without_clipped(const struct asked *q, struct side *s)
+{
+    int was = is_over(s);
+
+    of_second(q, s);
+    if (q->call == PART && !was && is_over(s) && s->said.answer <= VP1_SIDE_MASK)
+        clear_count(s, CLIPPED_AT), s->said.clipped = 0;
+}
+
+static void end_without_clipped(const struct asked *q, struct side *s)
+{
+    of_second(q, s);
+    if (q->call == END)
+        s->said.clipped = 0;
+}
+
+static void other_numbers_write_no_clipped(const struct asked *q, struct side *s)
+{
+    uint64_t was = s->said.clipped;
+
+    of_second(q, s);
+    if (q->words != VP1_PARTS)
+        s->said.clipped = was;
 }
 
 enum { THEIR_OWN, IN_BOTH };
@@ -474,7 +537,7 @@ const struct engine_slip engine_slips[] = {
     {"6 comes without the counts so far", BIT(STEPS), THEIR_OWN, six_without_counts},
     {"the end forgets the bytes left over", BIT(RUN_WORDS), THEIR_OWN, end_forgets_left_over},
     {"the budget is counted for each part", ANYTHING, THEIR_OWN, budget_per_part},
-    {"the budget is counted for each 128 triples of a part", ANYTHING, THEIR_OWN, budget_per_block},
+    {"the budget is counted for each 160 triples of a part", ANYTHING, THEIR_OWN, budget_per_block},
     {"the budget is spent with its last step", BIT(ANSWER), THEIR_OWN, spent_at_once},
     {"the budget is spent with its last step, in both engines", BIT(WHOLE), IN_BOTH, spent_at_once},
     {"the budget is spent with the next triple's first byte", BIT(ANSWER), THEIR_OWN, spent_at_the_first_byte},
@@ -495,8 +558,19 @@ const struct engine_slip engine_slips[] = {
     {"twelve bytes left over are taken", BIT(RUN_WORDS), THEIR_OWN, twelve_left_over},
     {"one step more than the budget is taken", BIT(RUN_WORDS), THEIR_OWN, more_steps},
     {"one access more than sixteen for each step is taken", BIT(RUN_WORDS), THEIR_OWN, more_accesses},
-    {"the high half of the accesses is not looked at", BIT(ACCESSES), THEIR_OWN, bound_in_32_bits},
+    {"the high half of the accesses is not looked at", BIT(ACCESSES), THEIR_OWN, low_bits_of_accesses},
     {"words out of bounds are a run that is begun", BIT(RUN_WORDS), THEIR_OWN, not_refused_with_5},
+    {"begin keeps the clipped components", BIT(RUN_WORDS), THEIR_OWN, begins_with_clipped},
+    {"the clipped components are those of a part", BIT(CLIPPED), THEIR_OWN, clipped_of_this_part},
+    {"the clipped components are those of a part, in both engines", BIT(WHOLE), IN_BOTH, clipped_of_this_part},
+    {"5 comes without the clipped components so far", BIT(CLIPPED), THEIR_OWN, five_without_clipped},
+    {"a refusal comes without the clipped components so far", BIT(CLIPPED), THEIR_OWN, refusal_without_clipped},
+    {"the end tells no clipped components", BIT(CLIPPED), THEIR_OWN, end_without_clipped},
+    {"the end tells no clipped components, in both engines", BIT(FORM), IN_BOTH, end_without_clipped},
+    {"with words of another number no clipped components are written", BIT(CLIPPED), THEIR_OWN, other_numbers_write_no_clipped},
+    {"with words of another number no clipped components are written, in both engines", BIT(STAYS), IN_BOTH, other_numbers_write_no_clipped},
+    {"one clipped component more than sixteen for each step is taken", BIT(RUN_WORDS), THEIR_OWN, more_clipped},
+    {"the high half of the clipped components is not looked at", BIT(CLIPPED), THEIR_OWN, low_bits_of_clipped},
 };
 
 const int engine_slip_count = sizeof engine_slips / sizeof engine_slips[0];

@@ -52,12 +52,6 @@ static void draw_words(uint32_t *w, int from, int to, uint32_t below_this)
         w[i] = below_this ? below(below_this) : draw();
 }
 
-static void set_accesses(uint32_t *w, uint64_t n)
-{
-    w[4] = (uint32_t)n;
-    w[5] = (uint32_t)(n >> 32);
-}
-
 /* Bits of words 7 to 9 that belong to no byte that is left over. */
 static void draw_behind(uint32_t *w)
 {
@@ -72,19 +66,29 @@ static void set_over(uint32_t *w, uint32_t over, uint32_t answer)
     w[2] = answer;
 }
 
+/* A count one above its bound, on it, above it by its high half; on the largest bounds, and above the largest. */
+enum { COUNT_WAYS = 5 };
+
+static void change_count(uint32_t *w, int at, uint32_t way)
+{
+    switch (way) {
+    case 0: set_count(w, at, 16 * (uint64_t)w[3] + 1); break;
+    case 1: set_count(w, at, 16 * (uint64_t)w[3]); break;
+    case 2: w[at + 1] = 1 + draw() % 3; break;
+    case 3: w[0] = 0xffffffff, w[3] = 0xfffffffe - below(3), set_count(w, at, 16 * (uint64_t)w[3] - below(3)); break;
+    default: w[at + 1] = 0x10, w[0] = w[3] = 0xffffffff; break;
+    }
+}
+
 /* The numbers one beside their bounds, or on them. */
 static void change_numbers(uint32_t *w, uint32_t kind)
 {
     switch (kind) {
-    case 0: w[0] = below(100), w[3] = w[0] + 1, set_accesses(w, 0); break;
+    case 0: w[0] = below(100), w[3] = w[0] + 1, set_count(w, ACCESSES_AT, 0), set_count(w, CLIPPED_AT, 0); break;
     case 1: w[0] = w[3]; break;
-    case 2: set_accesses(w, 16 * (uint64_t)w[3] + 1); break;
-    case 3: set_accesses(w, 16 * (uint64_t)w[3]); break;
-    case 4: w[5] = 1 + draw() % 3; break;
-    case 5: w[6] = 12; break;
-    case 6: w[6] = 12 + draw() / 2; break;
-    case 7: w[0] = 0xffffffff, w[3] = 0xfffffffe - below(3), set_accesses(w, 16 * (uint64_t)w[3] - below(3)); break;
-    default: w[5] = 0x10, w[0] = w[3] = 0xffffffff; break;
+    case 2: w[6] = 12; break;
+    case 3: w[6] = 12 + draw() / 2; break;
+    default: change_count(w, kind - 4 < COUNT_WAYS ? ACCESSES_AT : CLIPPED_AT, (kind - 4) % COUNT_WAYS);
     }
 }
 
@@ -95,13 +99,13 @@ static void change(uint32_t *w, uint32_t kind)
 
     switch (kind) {
     case 0: draw_words(w, 0, VP1_PARTS, 0); break;
-    case 1: draw_words(w, 0, VP1_PARTS, 20), w[5] = 0; break;
+    case 1: draw_words(w, 0, VP1_PARTS, 20), w[5] = w[11] = 0; break;
     case 2: set_over(w, 2, w[2]); break;
     case 3: set_over(w, 0x80000000, below(8)); break;
     case 4: set_over(w, 1, ONE_OF(tops)); break;
     case 5: set_over(w, 1, below(8)); break;
     case 6: set_over(w, 0, below(2) ? 77 : draw()); break;
-    case 7: draw_words(w, 10, VP1_PARTS, 0); break;
+    case 7: draw_words(w, 12, VP1_PARTS, 0); break;
     case 8: draw_behind(w); break;
     case 9: draw_words(w, 0, VP1_PARTS, 1); break;
     default: change_numbers(w, kind - 10);

@@ -76,21 +76,21 @@ static void agree(enum function f, int same, uint32_t answer)
 static void step(void)
 {
     uint32_t w[3];
-    struct vp1_counts k = {draw()};
-    uint64_t cells = draw();
+    struct vp1_counts k = {draw(), draw()};
+    uint64_t cells = draw(), clipped = draw();
     triple(w);
     uint32_t x = vp1_state_step(&s, w[0], w[1], w[2], &k);
-    uint32_t y = vp1_step(w[0], w[1], w[2], LENT(t), &cells);
-    agree(STEP, x == y && k.accesses == cells, x);
+    uint32_t y = vp1_step(w[0], w[1], w[2], LENT(t), &cells, &clipped);
+    agree(STEP, x == y && k.accesses == cells && k.clipped == clipped, x);
 }
 
-/* A list, mostly of documented opcodes, so that some get far. */
+/* A list, mostly of documented opcodes, so that some get far: vmin to vsub, and what stands beside them. */
 static void triples(uint32_t *words, size_t n)
 {
     for (size_t i = 0; i < n; i++) {
         triple(words + 3 * i);
         if (draw() % 8 != 0)
-            words[3 * i] = (0x88 + draw() % 4 * 16 + draw() % 4) << 24 | (words[3 * i] & 0xffffff);
+            words[3 * i] = (0x88 + draw() % 4 * 16 + draw() % 6) << 24 | (words[3 * i] & 0xffffff);
     }
 }
 
@@ -99,34 +99,34 @@ static void run(void)
     static uint32_t words[3 * 16 + 2];
     size_t n = draw() % 17, length = 3 * n + (draw() % 16 == 0 ? 1 + draw() % 2 : 0);
     uint32_t budget = draw() % 24, steps = draw(), done = draw();
-    struct vp1_counts k = {draw()};
-    uint64_t cells = draw();
+    struct vp1_counts k = {draw(), draw()};
+    uint64_t cells = draw(), clipped = draw();
     triples(words, n);
     uint32_t x = vp1_state_run(&s, words, length, budget, &steps, &k);
-    uint32_t y = vp1_run(words, length, budget, LENT(t), &done, &cells);
-    agree(RUN, x == y && steps == done && k.accesses == cells, x);
+    uint32_t y = vp1_run(words, length, budget, LENT(t), &done, &cells, &clipped);
+    agree(RUN, x == y && steps == done && k.accesses == cells && k.clipped == clipped, x);
 }
 
 /* One part of a run, on the function's words and on the call's. */
 static void one_part(const uint8_t *bytes, size_t n, struct vp1_parts *run, uint32_t *words)
 {
     uint32_t steps = draw(), done = draw();
-    struct vp1_counts k = {draw()};
-    uint64_t cells = draw();
+    struct vp1_counts k = {draw(), draw()};
+    uint64_t cells = draw(), clipped = draw();
     uint32_t x = vp1_state_part(&s, run, bytes, n, &steps, &k);
-    uint32_t y = vp1_part(bytes, n, LENT(t), words, 16, &done, &cells);
-    agree(PART, x == y && steps == done && k.accesses == cells && memcmp(run->words, words, 4 * 16) == 0, x);
+    uint32_t y = vp1_part(bytes, n, LENT(t), words, 16, &done, &cells, &clipped);
+    agree(PART, x == y && steps == done && k.accesses == cells && k.clipped == clipped && memcmp(run->words, words, 4 * 16) == 0, x);
 }
 
 /* The end of both. */
 static void one_end(struct vp1_parts *run, uint32_t *words)
 {
     uint32_t steps = draw(), done = draw();
-    struct vp1_counts k = {draw()};
-    uint64_t cells = draw();
+    struct vp1_counts k = {draw(), draw()};
+    uint64_t cells = draw(), clipped = draw();
     uint32_t x = vp1_parts_end(run, &steps, &k);
-    uint32_t y = vp1_end(words, 16, &done, &cells);
-    agree(END, x == y && steps == done && k.accesses == cells && memcmp(run->words, words, 4 * 16) == 0, x);
+    uint32_t y = vp1_end(words, 16, &done, &cells, &clipped);
+    agree(END, x == y && steps == done && k.accesses == cells && k.clipped == clipped && memcmp(run->words, words, 4 * 16) == 0, x);
 }
 
 /* A list in three parts, and its end; now and then a byte is missing. */
@@ -180,37 +180,60 @@ static void hold(int fact, const char *name)
     exit(EXIT_FAILURE);
 }
 
+static int counts(struct vp1_counts k, uint64_t accesses, uint64_t clipped) { return k.accesses == accesses && k.clipped == clipped; }
+
 /* By hand, since two that agree may both be wrong: a load, a wrong word, a list that outlasts its budget. */
 static void by_hand(void)
 {
     const uint32_t list[9] = {0xcc001234, 0, 0, 0xcd000000, 0, 0, 0xd9080007, 0, 0};
-    struct vp1_counts k = {99};
+    struct vp1_counts k = {99, 99};
     uint32_t steps = 99;
     memset(&s, 0, sizeof s);
     t = s;
-    hold(vp1_state_step(&s, 0x7f000000, 0, 0, &k) == VP1_FOREIGN && k.accesses == 0, "a wrong word is refused");
+    hold(vp1_state_step(&s, 0x7f000000, 0, 0, &k) == VP1_FOREIGN && counts(k, 0, 0), "a wrong word is refused");
     hold(memcmp(&s, &t, sizeof s) == 0, "a refusal changes nothing");
-    hold(vp1_state_run(&s, list, 9, 2, &steps, &k) == VP1_SPENT && steps == 2 && k.accesses == 0, "two steps of three");
+    hold(vp1_state_run(&s, list, 9, 2, &steps, &k) == VP1_SPENT && steps == 2 && counts(k, 0, 0), "two steps of three");
     t.a[0] = 0x1234;
     hold(memcmp(&s, &t, sizeof s) == 0, "setlo writes $a0 alone");
-    hold(vp1_state_run(&s, list, 9, 3, &steps, &k) == VP1_DONE && steps == 3 && k.accesses == 8, "a column under code 0 enters 8 cells");
-    hold(vp1_state_run(&s, list, 8, 3, &steps, &k) == VP1_RAGGED && steps == 0 && k.accesses == 0, "a ragged list");
+    hold(vp1_state_run(&s, list, 9, 3, &steps, &k) == VP1_DONE && steps == 3 && counts(k, 8, 0), "a column under code 0 enters 8 cells");
+    hold(vp1_state_run(&s, list, 8, 3, &steps, &k) == VP1_RAGGED && steps == 0 && counts(k, 0, 0), "a ragged list");
 }
 
 /* The same load in parts: a part answers 0 until its triple is whole and refused, and the end tells what is kept. */
 static void parts_by_hand(void)
 {
     const uint8_t load[12] = {0x07, 0x00, 0x08, 0xd9}, wrong[12] = {0, 0, 0, 0x7f};
-    struct vp1_counts k = {99};
+    struct vp1_counts k = {99, 99};
     struct vp1_parts run;
     uint32_t steps = 99;
     memset(&s, 0, sizeof s);
     hold(vp1_parts_begin(&run, 9) == VP1_DONE, "a run is begun");
-    hold(vp1_state_part(&s, &run, load, 11, &steps, &k) == VP1_DONE && steps == 0 && k.accesses == 0, "eleven bytes are no triple");
-    hold(vp1_state_part(&s, &run, load + 11, 1, &steps, &k) == VP1_DONE && steps == 1 && k.accesses == 8, "the twelfth makes one");
-    hold(vp1_state_part(&s, &run, wrong, 12, &steps, &k) == VP1_FOREIGN && steps == 1 && k.accesses == 8, "a wrong word in a part");
-    hold(vp1_state_part(&s, &run, load, 12, &steps, &k) == VP1_FOREIGN && steps == 1 && k.accesses == 8, "its answer is kept");
-    hold(vp1_parts_end(&run, &steps, &k) == VP1_FOREIGN && steps == 1 && k.accesses == 8, "the end tells it");
+    hold(vp1_state_part(&s, &run, load, 11, &steps, &k) == VP1_DONE && steps == 0 && counts(k, 0, 0), "eleven bytes are no triple");
+    hold(vp1_state_part(&s, &run, load + 11, 1, &steps, &k) == VP1_DONE && steps == 1 && counts(k, 8, 0), "the twelfth makes one");
+    hold(vp1_state_part(&s, &run, wrong, 12, &steps, &k) == VP1_FOREIGN && steps == 1 && counts(k, 8, 0), "a wrong word in a part");
+    hold(vp1_state_part(&s, &run, load, 12, &steps, &k) == VP1_FOREIGN && steps == 1 && counts(k, 8, 0), "its answer is kept");
+    hold(vp1_parts_end(&run, &steps, &k) == VP1_FOREIGN && steps == 1 && counts(k, 8, 0), "the end tells it");
+}
+
+/* Document 02's sum: vadd s $v2 $v1 $v1 of 0x64 clips all 16 components. By itself; then as a list, twice, with ldvv $v3 $a0 0x0 between; then the same
+   list in two parts. */
+static void clipped_by_hand(void)
+{
+    const uint32_t sum = 0x8c104207, list[9] = {sum, 0, 0, 0xd9180007, 0, 0, sum, 0, 0};
+    uint8_t bytes[36];
+    struct vp1_counts k = {99, 99};
+    struct vp1_parts run;
+    uint32_t steps = 99;
+    for (int i = 0; i < 36; i++)
+        bytes[i] = (uint8_t)(list[i / 4] >> 8 * (i % 4));
+    memset(&s, 0, sizeof s);
+    memset(s.v + 16, 0x64, 16);
+    hold(vp1_state_step(&s, sum, 0, 0, &k) == VP1_DONE && counts(k, 0, 16) && s.v[32] == 0x7f, "a sum of 200 in 16 components");
+    hold(vp1_state_run(&s, list, 9, 9, &steps, &k) == VP1_DONE && steps == 3 && counts(k, 8, 32), "two such sums in a list");
+    vp1_parts_begin(&run, 9);
+    hold(vp1_state_part(&s, &run, bytes, 20, &steps, &k) == VP1_DONE && steps == 1 && counts(k, 0, 16), "the first one in a part");
+    hold(vp1_state_part(&s, &run, bytes + 20, 16, &steps, &k) == VP1_DONE && steps == 3 && counts(k, 8, 32), "and both");
+    hold(vp1_parts_end(&run, &steps, &k) == VP1_DONE && steps == 3 && counts(k, 8, 32), "the end tells both");
 }
 
 /* The line of a word, there and back. */
@@ -244,6 +267,7 @@ int main(void)
         }
     by_hand();
     parts_by_hand();
+    clipped_by_hand();
     line_by_hand();
     return EXIT_SUCCESS;
 }

@@ -25,11 +25,12 @@ use Rattle.pieces.specs.Place.{Addr, xlat, put, halves, edit, upd}
 use Rattle.model.specs.Prog as P
 use Rattle.model.specs.Prog.{Prog, ret, _>>=_, run, puts, Write, Did, Done, done}
 use Rattle.model.specs.Address as M
-use Rattle.terms.specs.Counts.{entering}
+use Rattle.terms.specs.Counts.{counts}
+use Rattle.terms.specs.inner.Runs.{amount}
 use Rattle.terms.specs.declared.Counts.{Counts}
 use Rattle.model.specs.Step.{stepped, counted}
 use Rattle.model.proofs.Laws.{gathered, scattered, run-bind, puts-append, puts-cond, run-loads, puts-stores}
-use Rattle.address.specs.inner.Effect.{Pieces, five, addressed, countsIn, incOf, fetched, kept, intoR, intoV, outOf}
+use Rattle.address.specs.inner.Effect.{Pieces, five, addressed, countedIn, incOf, fetched, kept, intoR, intoV, outOf}
 
 -- ---- words and flags
 
@@ -111,7 +112,7 @@ run-increment (Immediate i) f s = refl
 
 run-loading : (way : Way) (n c x : ℕ) (rest : List Write) (s : State)
     → end (M.loading way n c x rest) s
-    ≡ done (record { writes = M.into way n (fetched way c x (s .ds)) ∷ rest; access = P.load way c (M.span way c x) })
+    ≡ done (record { writes = M.into way n (fetched way c x (s .ds)) ∷ rest; access = P.load way c (M.span way c x); clipped = 0 })
 unfolding fetched
 run-loading way n c x rest s = simp (run-bind, run-loads, gathered-is)
 
@@ -124,13 +125,13 @@ pairs : (c : ℕ) (l : List ℕ) → map (λ (b : Addr). pairOf (b .stride) (b .
 pairs c [] = refl
 pairs c (y ∷ l) = ap (λ (z : List ℕ). pairOf c y ∷ z) (pairs c l)
 
-enters : (way : Way) (c x : ℕ) → entering (P.entered (M.span way c x)) ≡ entering (cellsOf way c)
-enters way c x = ap entering (ap distinct (pairs c (addresses way c x)) ∙ cells-are way c x)
+enters : (way : Way) (c x : ℕ) → counts (P.entered (M.span way c x)) 0 ≡ counts (cellsOf way c) 0
+enters way c x = ap (λ (n : ℕ). counts n 0) (ap distinct (pairs c (addresses way c x)) ∙ cells-are way c x)
 
 abbrev count : Done → Counts
 count d = d .counts
 
-count-loading : (way : Way) (n c x : ℕ) (rest : List Write) (s : State) → count (end (M.loading way n c x rest) s) ≡ entering (cellsOf way c)
+count-loading : (way : Way) (n c x : ℕ) (rest : List Write) (s : State) → count (end (M.loading way n c x rest) s) ≡ counts (cellsOf way c) 0
 count-loading way n c x rest s = ap count (run-loading way n c x rest s) ∙ enters way c x
 
 -- ---- the eight instructions
@@ -148,8 +149,8 @@ closed (St o) s = simp (run-from, puts-storing, puts-short)
 closed (Lda o) s = simp (run-increment, run-loading, put-into, puts-short)
 closed (Sta o) s = simp (run-increment, run-from, puts-storing, puts-short)
 
-pub counting : (i : Address) (s : State) → counted (N.Address i) s ≡ countsIn i (s .a)
-unfolding counted countsIn baseOf
+pub counting : (i : Address) (s : State) → counted (N.Address i) s ≡ amount (countedIn i (s .a))
+unfolding counted countedIn baseOf
 counting (Set o) s = refl
 counting (Add o) s = refl
 counting (Bitop o) s = refl

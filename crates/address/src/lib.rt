@@ -6,7 +6,6 @@ ghost use Prim.Native.Nat.{_<_};
 ghost use lib.ListN.{length};
 ghost use Rattle.banks.specs.Line.{addresses};
 ghost use Rattle.banks.specs.inner.Access.{places, cellsOf};
-ghost use Rattle.terms.specs.Counts.{entering};
 ghost use Rattle.terms.specs.declared.Way.the-variants.{Horizontal, Vertical, Scalar};
 ghost use Rattle.store.specs.inner.Loads.{loaded, stored};
 ghost use Rattle.words.specs.inner.Bounded.{BoundedI};
@@ -16,7 +15,7 @@ ghost use Rattle.terms.specs.declared.Half.the-variants.{Low, High};
 ghost use Rattle.pieces.specs.inner.Regs.{plus, endAt, vregOf, withVreg};
 ghost use Rattle.address.specs.inner.Effect.{five, baseIn, incOf, addrAt, result, resultOf};
 use pieces::Base;
-use terms::Counts;
+use terms::Counted;
 use terms::Half;
 use terms::Way;
 use words::AccessAdd;
@@ -75,10 +74,10 @@ fn mark_end(b: Base, uimm: u16, cdst: usize, c: &mut [u32])
 }
 
 // What an access counts: the cells that it enters.
-fn entered(way: Way, code: usize) -> Counts
-    ensures { λ r. ⌜ r ≡ entering (cellsOf way code) ⌝ }
+fn entered(way: Way, code: usize) -> Counted
+    ensures { λ r. ⌜ r ≡ Counted.Cells (cellsOf way code) ⌝ }
 {
-    terms::entering(banks::cells(way, code))
+    Counted::Cells(banks::cells(way, code))
 }
 
 // A column loaded into $v[n], or stored from it.
@@ -98,7 +97,7 @@ fn column_out(n: usize, code: usize, x: usize, ds: &mut [u8], v: &[u8])
     store::store_column(ds, code, x, &v[at..at + 16]);
 }
 
-pub fn setlo(word: u32, a: &mut [u32]) -> Counts
+pub fn setlo(word: u32, a: &mut [u32]) -> Counted
     requires { ⌜ (length (now a) ≡ 32) ⌝ }
     ensures { λ n. ⌜ result n (five [] (now (a .exit)) [] [] [])
         ≡ resultOf (setOf (fieldsOf word) Low) (five [] (now (a .entry)) [] [] []) ⌝ }
@@ -106,10 +105,10 @@ pub fn setlo(word: u32, a: &mut [u32]) -> Counts
     let f = words::cut(word);
     let n = f.dst;
     a[n] = pieces::with_half(Half::Low, f.half, a[n]);
-    terms::no_counts()
+    Counted::Nothing
 }
 
-pub fn sethi(word: u32, a: &mut [u32]) -> Counts
+pub fn sethi(word: u32, a: &mut [u32]) -> Counted
     requires { ⌜ (length (now a) ≡ 32) ⌝ }
     ensures { λ n. ⌜ result n (five [] (now (a .exit)) [] [] [])
         ≡ resultOf (setOf (fieldsOf word) High) (five [] (now (a .entry)) [] [] []) ⌝ }
@@ -117,10 +116,10 @@ pub fn sethi(word: u32, a: &mut [u32]) -> Counts
     let f = words::cut(word);
     let n = f.dst;
     a[n] = pieces::with_half(Half::High, f.half, a[n]);
-    terms::no_counts()
+    Counted::Nothing
 }
 
-pub fn add(word: u32, index: u32, a: &mut [u32], c: &mut [u32]) -> Counts
+pub fn add(word: u32, index: u32, a: &mut [u32], c: &mut [u32]) -> Counted
     requires { ⌜ (length (now a) ≡ 32) × (length (now c) ≡ 4) × (index < 32) ⌝ }
     ensures { λ n. ⌜ result n (five [] (now (a .exit)) [] (now (c .exit)) [])
         ≡ resultOf (addOf (fieldsOf word) index) (five [] (now (a .entry)) [] (now (c .entry)) []) ⌝ }
@@ -131,10 +130,10 @@ pub fn add(word: u32, index: u32, a: &mut [u32], c: &mut [u32]) -> Counts
     let res = std::num::wrapping_add_u32(a[src1], a[index as usize]);
     a[dst] = res;
     pieces::set_long(c, f.flags, res);
-    terms::no_counts()
+    Counted::Nothing
 }
 
-pub fn aadd(word: u32, index: u32, a: &mut [u32], c: &mut [u32]) -> Counts
+pub fn aadd(word: u32, index: u32, a: &mut [u32], c: &mut [u32]) -> Counted
     requires { ⌜ (length (now a) ≡ 32) × (length (now c) ≡ 4) × (index < 32) ⌝ }
     ensures { λ n. ⌜ result n (five [] (now (a .exit)) [] (now (c .exit)) [])
         ≡ resultOf (aaddOf (fieldsOf word) index) (five [] (now (a .entry)) [] (now (c .entry)) []) ⌝ }
@@ -142,10 +141,10 @@ pub fn aadd(word: u32, index: u32, a: &mut [u32], c: &mut [u32]) -> Counts
     let f = words::cut(word);
     let y = base_at(a, index as usize);
     advance(f.dst, y.addr, f.flags, a, c);
-    terms::no_counts()
+    Counted::Nothing
 }
 
-pub fn bitop(word: u32, a: &mut [u32], c: &mut [u32]) -> Counts
+pub fn bitop(word: u32, a: &mut [u32], c: &mut [u32]) -> Counted
     requires { ⌜ (length (now a) ≡ 32) × (length (now c) ≡ 4) ⌝ }
     ensures { λ n. ⌜ result n (five [] (now (a .exit)) [] (now (c .exit)) [])
         ≡ resultOf (bitopOf (fieldsOf word)) (five [] (now (a .entry)) [] (now (c .entry)) []) ⌝ }
@@ -157,10 +156,10 @@ pub fn bitop(word: u32, a: &mut [u32], c: &mut [u32]) -> Counts
     let res = bits::bitop32(f.bitop, a[src1], a[src2]);
     a[dst] = res;
     pieces::set_long(c, f.flags, res);
-    terms::no_counts()
+    Counted::Nothing
 }
 
-pub fn ldvh(word: u32, ds: &[u8], a: &[u32], c: &mut [u32], v: &mut [u8]) -> Counts
+pub fn ldvh(word: u32, ds: &[u8], a: &[u32], c: &mut [u32], v: &mut [u8]) -> Counted
     requires { ⌜ (length (now ds) ≡ 8192) × (length (now a) ≡ 32) × (length (now c) ≡ 4) × (length (now v) ≡ 512) ⌝ }
     ensures { λ n. ⌜ result n (five (now (ds .entry)) (now (a .entry)) [] (now (c .exit)) (now (v .exit)))
         ≡ resultOf (ldOf (fieldsOf word) Horizontal) (five (now (ds .entry)) (now (a .entry)) [] (now (c .entry)) (now (v .entry))) ⌝ }
@@ -173,7 +172,7 @@ pub fn ldvh(word: u32, ds: &[u8], a: &[u32], c: &mut [u32], v: &mut [u8]) -> Cou
     entered(Way::Horizontal, b.stride)
 }
 
-pub fn ldvv(word: u32, ds: &[u8], a: &[u32], c: &mut [u32], v: &mut [u8]) -> Counts
+pub fn ldvv(word: u32, ds: &[u8], a: &[u32], c: &mut [u32], v: &mut [u8]) -> Counted
     requires { ⌜ (length (now ds) ≡ 8192) × (length (now a) ≡ 32) × (length (now c) ≡ 4) × (length (now v) ≡ 512) ⌝ }
     ensures { λ n. ⌜ result n (five (now (ds .entry)) (now (a .entry)) [] (now (c .exit)) (now (v .exit)))
         ≡ resultOf (ldOf (fieldsOf word) Vertical) (five (now (ds .entry)) (now (a .entry)) [] (now (c .entry)) (now (v .entry))) ⌝ }
@@ -186,7 +185,7 @@ pub fn ldvv(word: u32, ds: &[u8], a: &[u32], c: &mut [u32], v: &mut [u8]) -> Cou
     entered(Way::Vertical, b.stride)
 }
 
-pub fn lds(word: u32, ds: &[u8], a: &[u32], c: &mut [u32], r: &mut [u32]) -> Counts
+pub fn lds(word: u32, ds: &[u8], a: &[u32], c: &mut [u32], r: &mut [u32]) -> Counted
     requires { ⌜ (length (now ds) ≡ 8192) × (length (now a) ≡ 32) × (length (now c) ≡ 4) × (length (now r) ≡ 32) ⌝ }
     ensures { λ n. ⌜ result n (five (now (ds .entry)) (now (a .entry)) (now (r .exit)) (now (c .exit)) [])
         ≡ resultOf (ldOf (fieldsOf word) Scalar) (five (now (ds .entry)) (now (a .entry)) (now (r .entry)) (now (c .entry)) []) ⌝ }
@@ -200,7 +199,7 @@ pub fn lds(word: u32, ds: &[u8], a: &[u32], c: &mut [u32], r: &mut [u32]) -> Cou
     entered(Way::Scalar, b.stride)
 }
 
-pub fn stvh(word: u32, ds: &mut [u8], a: &[u32], c: &mut [u32], v: &[u8]) -> Counts
+pub fn stvh(word: u32, ds: &mut [u8], a: &[u32], c: &mut [u32], v: &[u8]) -> Counted
     requires { ⌜ (length (now ds) ≡ 8192) × (length (now a) ≡ 32) × (length (now c) ≡ 4) × (length (now v) ≡ 512) ⌝ }
     ensures { λ n. ⌜ result n (five (now (ds .exit)) (now (a .entry)) [] (now (c .exit)) (now (v .entry)))
         ≡ resultOf (stOf (fieldsOf word) Horizontal) (five (now (ds .entry)) (now (a .entry)) [] (now (c .entry)) (now (v .entry))) ⌝ }
@@ -213,7 +212,7 @@ pub fn stvh(word: u32, ds: &mut [u8], a: &[u32], c: &mut [u32], v: &[u8]) -> Cou
     entered(Way::Horizontal, b.stride)
 }
 
-pub fn stvv(word: u32, ds: &mut [u8], a: &[u32], c: &mut [u32], v: &[u8]) -> Counts
+pub fn stvv(word: u32, ds: &mut [u8], a: &[u32], c: &mut [u32], v: &[u8]) -> Counted
     requires { ⌜ (length (now ds) ≡ 8192) × (length (now a) ≡ 32) × (length (now c) ≡ 4) × (length (now v) ≡ 512) ⌝ }
     ensures { λ n. ⌜ result n (five (now (ds .exit)) (now (a .entry)) [] (now (c .exit)) (now (v .entry)))
         ≡ resultOf (stOf (fieldsOf word) Vertical) (five (now (ds .entry)) (now (a .entry)) [] (now (c .entry)) (now (v .entry))) ⌝ }
@@ -226,7 +225,7 @@ pub fn stvv(word: u32, ds: &mut [u8], a: &[u32], c: &mut [u32], v: &[u8]) -> Cou
     entered(Way::Vertical, b.stride)
 }
 
-pub fn sts(word: u32, ds: &mut [u8], a: &[u32], c: &mut [u32], r: &[u32]) -> Counts
+pub fn sts(word: u32, ds: &mut [u8], a: &[u32], c: &mut [u32], r: &[u32]) -> Counted
     requires { ⌜ (length (now ds) ≡ 8192) × (length (now a) ≡ 32) × (length (now c) ≡ 4) × (length (now r) ≡ 32) ⌝ }
     ensures { λ n. ⌜ result n (five (now (ds .exit)) (now (a .entry)) (now (r .entry)) (now (c .exit)) [])
         ≡ resultOf (stOf (fieldsOf word) Scalar) (five (now (ds .entry)) (now (a .entry)) (now (r .entry)) (now (c .entry)) []) ⌝ }
@@ -240,7 +239,7 @@ pub fn sts(word: u32, ds: &mut [u8], a: &[u32], c: &mut [u32], r: &[u32]) -> Cou
     entered(Way::Scalar, b.stride)
 }
 
-pub fn ldavh(o: AccessAdd, ds: &[u8], a: &mut [u32], c: &mut [u32], v: &mut [u8]) -> Counts
+pub fn ldavh(o: AccessAdd, ds: &[u8], a: &mut [u32], c: &mut [u32], v: &mut [u8]) -> Counted
     requires { ⌜ (length (now ds) ≡ 8192) × (length (now a) ≡ 32) × (length (now c) ≡ 4) × (length (now v) ≡ 512) × BoundedI (o .inc) ⌝ }
     ensures { λ n. ⌜ result n (five (now (ds .entry)) (now (a .exit)) [] (now (c .exit)) (now (v .exit)))
         ≡ resultOf (ldaOf (fieldsOf (o .bits)) Horizontal (o .inc)) (five (now (ds .entry)) (now (a .entry)) [] (now (c .entry)) (now (v .entry))) ⌝ }
@@ -253,7 +252,7 @@ pub fn ldavh(o: AccessAdd, ds: &[u8], a: &mut [u32], c: &mut [u32], v: &mut [u8]
     entered(Way::Horizontal, b.stride)
 }
 
-pub fn ldavv(o: AccessAdd, ds: &[u8], a: &mut [u32], c: &mut [u32], v: &mut [u8]) -> Counts
+pub fn ldavv(o: AccessAdd, ds: &[u8], a: &mut [u32], c: &mut [u32], v: &mut [u8]) -> Counted
     requires { ⌜ (length (now ds) ≡ 8192) × (length (now a) ≡ 32) × (length (now c) ≡ 4) × (length (now v) ≡ 512) × BoundedI (o .inc) ⌝ }
     ensures { λ n. ⌜ result n (five (now (ds .entry)) (now (a .exit)) [] (now (c .exit)) (now (v .exit)))
         ≡ resultOf (ldaOf (fieldsOf (o .bits)) Vertical (o .inc)) (five (now (ds .entry)) (now (a .entry)) [] (now (c .entry)) (now (v .entry))) ⌝ }
@@ -266,7 +265,7 @@ pub fn ldavv(o: AccessAdd, ds: &[u8], a: &mut [u32], c: &mut [u32], v: &mut [u8]
     entered(Way::Vertical, b.stride)
 }
 
-pub fn ldas(o: AccessAdd, ds: &[u8], a: &mut [u32], c: &mut [u32], r: &mut [u32]) -> Counts
+pub fn ldas(o: AccessAdd, ds: &[u8], a: &mut [u32], c: &mut [u32], r: &mut [u32]) -> Counted
     requires { ⌜ (length (now ds) ≡ 8192) × (length (now a) ≡ 32) × (length (now c) ≡ 4) × (length (now r) ≡ 32) × BoundedI (o .inc) ⌝ }
     ensures { λ n. ⌜ result n (five (now (ds .entry)) (now (a .exit)) (now (r .exit)) (now (c .exit)) [])
         ≡ resultOf (ldaOf (fieldsOf (o .bits)) Scalar (o .inc)) (five (now (ds .entry)) (now (a .entry)) (now (r .entry)) (now (c .entry)) []) ⌝ }
@@ -280,7 +279,7 @@ pub fn ldas(o: AccessAdd, ds: &[u8], a: &mut [u32], c: &mut [u32], r: &mut [u32]
     entered(Way::Scalar, b.stride)
 }
 
-pub fn stavh(o: AccessAdd, ds: &mut [u8], a: &mut [u32], c: &mut [u32], v: &[u8]) -> Counts
+pub fn stavh(o: AccessAdd, ds: &mut [u8], a: &mut [u32], c: &mut [u32], v: &[u8]) -> Counted
     requires { ⌜ (length (now ds) ≡ 8192) × (length (now a) ≡ 32) × (length (now c) ≡ 4) × (length (now v) ≡ 512) × BoundedI (o .inc) ⌝ }
     ensures { λ n. ⌜ result n (five (now (ds .exit)) (now (a .exit)) [] (now (c .exit)) (now (v .entry)))
         ≡ resultOf (staOf (fieldsOf (o .bits)) Horizontal (o .inc)) (five (now (ds .entry)) (now (a .entry)) [] (now (c .entry)) (now (v .entry))) ⌝ }
@@ -293,7 +292,7 @@ pub fn stavh(o: AccessAdd, ds: &mut [u8], a: &mut [u32], c: &mut [u32], v: &[u8]
     entered(Way::Horizontal, b.stride)
 }
 
-pub fn stavv(o: AccessAdd, ds: &mut [u8], a: &mut [u32], c: &mut [u32], v: &[u8]) -> Counts
+pub fn stavv(o: AccessAdd, ds: &mut [u8], a: &mut [u32], c: &mut [u32], v: &[u8]) -> Counted
     requires { ⌜ (length (now ds) ≡ 8192) × (length (now a) ≡ 32) × (length (now c) ≡ 4) × (length (now v) ≡ 512) × BoundedI (o .inc) ⌝ }
     ensures { λ n. ⌜ result n (five (now (ds .exit)) (now (a .exit)) [] (now (c .exit)) (now (v .entry)))
         ≡ resultOf (staOf (fieldsOf (o .bits)) Vertical (o .inc)) (five (now (ds .entry)) (now (a .entry)) [] (now (c .entry)) (now (v .entry))) ⌝ }
@@ -306,7 +305,7 @@ pub fn stavv(o: AccessAdd, ds: &mut [u8], a: &mut [u32], c: &mut [u32], v: &[u8]
     entered(Way::Vertical, b.stride)
 }
 
-pub fn stas(o: AccessAdd, ds: &mut [u8], a: &mut [u32], c: &mut [u32], r: &[u32]) -> Counts
+pub fn stas(o: AccessAdd, ds: &mut [u8], a: &mut [u32], c: &mut [u32], r: &[u32]) -> Counted
     requires { ⌜ (length (now ds) ≡ 8192) × (length (now a) ≡ 32) × (length (now c) ≡ 4) × (length (now r) ≡ 32) × BoundedI (o .inc) ⌝ }
     ensures { λ n. ⌜ result n (five (now (ds .exit)) (now (a .exit)) (now (r .entry)) (now (c .exit)) [])
         ≡ resultOf (staOf (fieldsOf (o .bits)) Scalar (o .inc)) (five (now (ds .entry)) (now (a .entry)) (now (r .entry)) (now (c .entry)) []) ⌝ }

@@ -70,7 +70,8 @@ fn agrees(
         Expected::Sixteen(s, at) => bytes_agree(s, line, at, ds, v),
         Expected::Answer(n) => total.answer == n,
         Expected::Steps(n) => total.steps == n,
-        Expected::Cells(n) => total.cells == n as u64,
+        Expected::Cells(n) => total.counts.accesses == n as u64,
+        Expected::Clipped(n) => total.counts.clipped == n as u64,
         Expected::Banks(at) => banks_agree(line, at, banks),
         _ => true,
     }
@@ -104,7 +105,8 @@ fn found(
         Expected::Sixteen(s, _) => subject(s, ds, a, r, c, vc, v),
         Expected::Answer(_) => phrases::answer(total.answer),
         Expected::Steps(_) => figures::line(b"steps ", total.steps as u64),
-        Expected::Cells(_) => figures::line(b"cells ", total.cells),
+        Expected::Cells(_) => figures::line(b"cells ", total.counts.accesses),
+        Expected::Clipped(_) => figures::line(b"clipped ", total.counts.clipped),
         Expected::Banks(_) => print_banks(banks),
         _ => {}
     }

@@ -14,7 +14,7 @@ use text::print::text;
 
 // What the last part says of the run itself.
 fn print_total(total: Total, banks: &[u32; 16]) {
-    total::lines(total.answer, total.steps, total.cells);
+    total::lines(total.answer, total.steps, total.counts);
     print_banks(banks);
 }
 

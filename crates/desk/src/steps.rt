@@ -8,6 +8,7 @@ use shown::changes;
 use shown::phrases;
 use swap::Swap;
 use swap::Verdict;
+use terms::Counts;
 use text::count::one_more;
 use text::print::counted;
 use text::print::decimal;
@@ -16,11 +17,11 @@ use text::print::text;
 // The answer of a run whose budget is spent.
 const SPENT: u32 = 7;
 
-// How far the run has come: its answer, the steps done, and their cell accesses.
+// How far the run has come: its answer, the steps done, and what they count.
 pub struct Total {
     pub answer: u32,
     pub steps: u32,
-    pub cells: u64,
+    pub counts: Counts,
 }
 
 // Step i of the words, three for each; zeros where there is none.
@@ -69,37 +70,47 @@ fn print_swap(s: Swap) {
     print_verdict(verdict);
 }
 
-fn print_answer(answer: u32, cells: u64, followed: bool, s: Swap) {
+fn print_answer(answer: u32, counts: Counts, followed: bool, s: Swap) {
     if answer != 0 {
         phrases::refused(answer);
         return;
     }
     text(b"done, ");
-    counted(cells, b" cell");
+    counted(counts.accesses, b" cell");
+    text(b", ");
+    decimal(counts.clipped);
+    text(b" clipped");
     if followed {
         print_swap(s);
     }
 }
 
 // The line of a step.
-fn print_step(number: u32, t: Triple, answer: u32, cells: u64, followed: bool, s: Swap) {
+fn print_step(number: u32, t: Triple, answer: u32, counts: Counts, followed: bool, s: Swap) {
     decimal(number as u64);
     text(b": ");
     phrases::step_text(t);
     text(b": ");
-    print_answer(answer, cells, followed, s);
+    print_answer(answer, counts, followed, s);
     text(b"\n");
 }
 
-// Wrapping, since a bound on the cells is of no use to any caller: there are at most 1,024 steps, each with at most 16.
-fn more(total: Total, answer: u32, cells: u64) -> Total {
+// Wrapping, since a bound on the counts is of no use to any caller: there are at most 1,024 steps, each with at most 16 of either.
+fn added(x: Counts, y: Counts) -> Counts {
+    Counts {
+        accesses: std::num::wrapping_add_u64(x.accesses, y.accesses),
+        clipped: std::num::wrapping_add_u64(x.clipped, y.clipped),
+    }
+}
+
+fn more(total: Total, answer: u32, counts: Counts) -> Total {
     let mut after = total;
     if answer != 0 {
         after.answer = answer;
         return after;
     }
     after.steps = one_more(total.steps);
-    after.cells = std::num::wrapping_add_u64(total.cells, cells);
+    after.counts = added(total.counts, counts);
     after
 }
 
@@ -154,12 +165,12 @@ fn one_step(
     let x = machine::step(t.word, t.side, t.mask, ds, a, r, c, vc, v);
     let end = x.end;
     let answer = terms::number(end);
-    let cells = x.counts.accesses;
+    let counts = x.counts;
     if loud {
-        print_step(one_more(total.steps), t, answer, cells, followed, s);
+        print_step(one_more(total.steps), t, answer, counts, followed, s);
         changes::changes(before, ds, a, r, c, vc, v);
     }
-    more(total, answer, cells)
+    more(total, answer, counts)
 }
 
 // How many steps the budget covers.
@@ -188,7 +199,7 @@ pub fn run(
     let mut total = Total {
         answer: 0,
         steps: 0,
-        cells: 0,
+        counts: terms::no_counts(),
     };
     for i in 0..n {
         let t = triple_at(words, i);

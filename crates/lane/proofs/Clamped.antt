@@ -42,6 +42,11 @@ clip-zero x y z =
     (between-zero false s a b (mag-sext x 7) (mag-sext y 7) (mag-sext z 7))
     (between-zero true s b a (mag-sext x 7) (mag-sext z 7) (mag-sext y 7))
 
+-- a component of vclip is never told
+pub clip-untold : (x y z : ℕ) → clipLane x y z .clipped ≡ false
+unfolding clipLane clipBetween
+clip-untold x y z = one-of (λ (l : Lane). l .clipped ≡ false) (ltZ (sext y 7) (sext z 7)) refl refl
+
 -- p between lo and hi, as the code has it
 abbrev pub inside : ℕ → ℕ → ℕ → ℕ
 inside p lo hi = let t = cond (ltb p lo) lo p in cond (ltb hi t) hi t

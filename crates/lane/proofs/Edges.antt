@@ -63,7 +63,7 @@ unfoldable pub movedBetween : Bool → ℤ → ℤ → ℤ → Lane
 movedBetween sf s start end =
     let res = cond (ltZ s start) start s in
     let out = cond (ltZ end res) end res in
-    record { byte = low 8 out; sign = sf || (ltZ s start || ltZ end res); zero = isZero out }
+    record { byte = low 8 out; sign = sf || (ltZ s start || ltZ end res); zero = isZero out; clipped = false }
 
 unfoldable pub movedLane : ℕ → ℕ → ℕ → Lane
 movedLane x y z =

@@ -14,7 +14,7 @@ use borrow.Author.Tests.{lt-ltb, le-ltb, ltb-true, ltb-false}
 use Rattle.signed.specs.Signed.{sext, widen, low, clip}
 use Rattle.signed.proofs.Z.{passed, mag-sext, add-fits, sub-fits, neg-back, pos-down, pos-up}
 use Rattle.lane.specs.declared.Calc.the-variants.{Min, Max, Abs, Add, Sub}
-use Rattle.lane.specs.Lane.{saturated, result, arithLane, apart}
+use Rattle.lane.specs.Lane.{saturated, result, told, arithLane, apart}
 use Rattle.lane.proofs.Biased.{by-half, sext-low, sext-high, sext-off, ltZ-off, size}
 use Rattle.lane.proofs.Saturated.{moved, within, above, below}
 
@@ -102,11 +102,11 @@ between false x y h k = within y k
 
 pub min-unsigned : (x y : ℕ) → x < 256 → y < 256 → arithLane Min false x y ≡ moved false 0 (cond (ltb x y) x y)
 unfolding arithLane result widen
-min-unsigned x y h k = between (ltb x y) x y h k
+min-unsigned x y h k = ap (told false) (between (ltb x y) x y h k)
 
 pub max-unsigned : (x y : ℕ) → x < 256 → y < 256 → arithLane Max false x y ≡ moved false 0 (cond (ltb x y) y x)
 unfolding arithLane result widen
-max-unsigned x y h k = between (ltb x y) y x k h
+max-unsigned x y h k = ap (told false) (between (ltb x y) y x k h)
 
 pub abs-unsigned : (x y : ℕ) → x < 256 → arithLane Abs false x y ≡ moved false 0 x
 unfolding arithLane result widen

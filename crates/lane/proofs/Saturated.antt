@@ -8,7 +8,7 @@ use lib.IntN.{ℤ, pos, negsuc}
 use lib.Signed.{mag, ltZ}
 use borrow.Author.Tests.{ne-eqb, lt-ltb, le-ltb, lt-leb, le-leb, ltb-true, ltb-false}
 use Rattle.signed.specs.Signed.{isZero, low, clip}
-use Rattle.lane.specs.Lane.{Lane, saturated}
+use Rattle.lane.specs.Lane.{Lane, outside, saturated}
 
 -- a small number's flags from its low byte
 pub zero-small : (v : ℤ) → mag v < 128 → isZero v ≡ eqb (low 8 v) 0
@@ -22,7 +22,7 @@ sign-small (pos n) h = lt-leb 0x80 (n % 2 ^ 8) (omega arith) ∙ sym (le-ltb n 0
 sign-small (negsuc n) h = le-leb 0x80 (2 ^ 8 - 1 - n % 2 ^ 8) (omega arith)
 
 -- saturated as a signed result
-unfoldable into : ℤ → ℤ
+unfoldable pub into : ℤ → ℤ
 into z = clip (negsuc 0x7f) (pos 0x7f) z
 
 into-pos : (n : ℕ) → into (pos n) ≡ pos (cond (ltb 0x7f n) 0x7f n)
@@ -48,7 +48,7 @@ capped n = pick (ltb 0x7f n) refl
     pick true e = omega arith
     pick false e = omega (arith, ltb-false 0x7f n e)
 
-into-small : (z : ℤ) → mag (into z) < 128
+pub into-small : (z : ℤ) → mag (into z) < 128
 into-small (pos n) = rw (into-pos n) (capped n)
 into-small (negsuc n) = rw (into-neg n) (capped n)
 
@@ -66,18 +66,18 @@ signed-sign z = sym (sign-small (into z) (into-small z) ∙ into-sign z)
 
 -- saturated as an unsigned result: the byte and whether it was moved
 abbrev pub moved : Bool → ℕ → ℕ → Lane
-moved t e n = record { byte = cond t e n; sign = t; zero = eqb (cond t e n) 0 }
+moved t e n = record { byte = cond t e n; sign = t; zero = eqb (cond t e n) 0; clipped = t }
 
 pub within : (n : ℕ) → n < 256 → saturated false (pos n) ≡ moved false 0 n
-unfolding saturated clip low
+unfolding saturated outside clip low
 within n h = let e : n % 2 ^ 8 ≡ n = omega arith in rw (le-ltb n 0 (omega arith), le-ltb 0xff n (omega arith), e)
 
 pub above : (n : ℕ) → 256 ≤ n → saturated false (pos n) ≡ moved true 255 n
-unfolding saturated clip low
+unfolding saturated outside clip low
 above n h = rw (le-ltb n 0 (omega arith), lt-ltb 0xff n (omega arith))
 
 pub below : (n m : ℕ) → saturated false (negsuc n) ≡ moved true 0 m
-unfolding saturated clip low
+unfolding saturated outside clip low
 below n m = refl
 
 pub unsigned-zero : (z : ℤ) → saturated false z .zero ≡ eqb (saturated false z .byte) 0

@@ -1,6 +1,9 @@
-// The byte that an arithmetic operation makes of one component, without its flags, in forms that the compiler turns into vector code.
+// The byte that an arithmetic operation makes of one component, without its flags, and whether it was clipped (1 of a signed form, 255 of an unsigned one),
+// in forms that the compiler turns into vector code.
 ghost use mathlib.Core.Path.{_≡_};
 ghost use mathlib.Core.Bool.{true, false, cond};
+ghost use Prim.Native.Nat.{_+_, _/_};
+ghost use lib.Dec.{eqb};
 ghost use Rattle.lane.specs.declared.Calc.the-variants.{Min, Max, Abs, Neg, Add, Sub};
 ghost use Rattle.lane.specs.Lane.{arithLane};
 use crate::select;
@@ -28,6 +31,14 @@ pub fn vadd_s(x: u8, y: u8) -> u8
     ))
 }
 
+// 1 where the true sum lay outside the range: the sum's bit 7 is then neither addend's. Bits, and no comparison, so that the compiler adds them up as they are.
+pub fn vadd_s_clipped(x: u8, y: u8) -> u8
+    ensures { λ r. ⌜ r ≡ cond (arithLane Add true x y .clipped) 1 0 ⌝ }
+{
+    let t = std::num::wrapping_add_u8(x, y);
+    ((x ^ t) & (y ^ t)) / 128
+}
+
 pub fn vsub_s(x: u8, y: u8) -> u8
     ensures { λ r. ⌜ r ≡ arithLane Sub true x y .byte ⌝ }
 {
@@ -36,6 +47,14 @@ pub fn vsub_s(x: u8, y: u8) -> u8
         0x7f,
         signed::sext(x as u32, 7) - signed::sext(y as u32, 7),
     ))
+}
+
+// The signs differ, and the difference has not the first one's.
+pub fn vsub_s_clipped(x: u8, y: u8) -> u8
+    ensures { λ r. ⌜ r ≡ cond (arithLane Sub true x y .clipped) 1 0 ⌝ }
+{
+    let t = std::num::wrapping_sub_u8(x, y);
+    ((x ^ y) & (x ^ t)) / 128
 }
 
 pub fn vneg_s(x: u8) -> u8
@@ -49,6 +68,13 @@ pub fn vabs_s(x: u8) -> u8
 {
     let z = select::either(x < 128, x, std::num::wrapping_sub_u8(0, x));
     select::either(z < 127, z, 127)
+}
+
+// 1 for 128, which is -128: the lowest bit that is set in it is bit 7. Of all signed bytes it alone has a negation, or a magnitude, outside the range.
+pub fn least(x: u8) -> u8
+    ensures { λ r. ⌜ r ≡ cond (eqb x 128) 1 0 ⌝ }
+{
+    (x & std::num::wrapping_sub_u8(0, x)) / 128
 }
 
 pub fn vmin_u(x: u8, y: u8) -> u8
@@ -71,10 +97,18 @@ pub fn vadd_u(x: u8, y: u8) -> u8
     select::either(t < x, 255, t)
 }
 
+// Bit 8 of a sum of two bytes, from bit 7 of both and of the sum's low byte.
+fn carry(x: u8, y: u8) -> u8
+    ensures { λ r. ⌜ r ≡ (x + y) / 256 ⌝ }
+{
+    let t = std::num::wrapping_add_u8(x, y);
+    ((x & y) | ((x | y) & (t ^ 255))) / 128
+}
+
 pub fn vadd_u_clipped(x: u8, y: u8) -> u8
     ensures { λ r. ⌜ r ≡ cond (arithLane Add false x y .sign) 255 0 ⌝ }
 {
-    select::either(std::num::wrapping_add_u8(x, y) < x, 255, 0)
+    std::num::wrapping_sub_u8(0, carry(x, y))
 }
 
 // The difference went below 0 where it comes out above x.
@@ -85,8 +119,9 @@ pub fn vsub_u(x: u8, y: u8) -> u8
     select::either(x < t, 0, t)
 }
 
+// y is above x where y and 255 - x make a carry.
 pub fn vsub_u_clipped(x: u8, y: u8) -> u8
     ensures { λ r. ⌜ r ≡ cond (arithLane Sub false x y .sign) 255 0 ⌝ }
 {
-    select::either(x < std::num::wrapping_sub_u8(x, y), 255, 0)
+    std::num::wrapping_sub_u8(0, carry(y, 255 - x))
 }

@@ -1,12 +1,13 @@
--- Packed flags: they fit sixteen bits, are added up as binary digits, and may be gathered turned over.
-use mathlib.Core.Path.{_≡_, refl}
+-- Packed flags: they fit sixteen bits, are added up as binary digits, may be gathered turned over, and each is a bit of the number.
+use mathlib.Core.Path.{_≡_, refl, sym, ap, _∙_}
 use mathlib.Core.Bool.{Bool, true, false, cond, not}
 use mathlib.Core.List.{List}
-use Prim.Native.Nat.{ℕ, zero, suc, _+_, _*_, _-_, _^_, _<_}
+use Prim.Native.Nat.{ℕ, zero, suc, _+_, _*_, _-_, _/_, _%_, _^_, _<_}
 use native.Mathlib.Nat.{pow-suc}
 use native.Mathlib.Omega.{arith}
 use lib.Dec.{ltb, leb}
 use lib.ListN.{getD}
+use lib.Pow.{shr-shr}
 use borrow.Author.Tests.{ltb-true, ltb-false, lt-leb, le-leb}
 use Rattle.lanes.specs.Lanes.{flags}
 use Rattle.lanes.specs.inner.Unpacked.{topsOf, eight}
@@ -82,3 +83,29 @@ unfolding topsOf
 tops-over l =
     let e = flags-same 16 (λ i. ltb (getD l i 0) 128) (λ i. not (leb 0x80 (getD l i 0))) (λ i h. clear (getD l i 0)) in
     omega (arith, e, over 16 (λ i. leb 0x80 (getD l i 0)))
+
+-- flags from the low end
+pub flags-low : (n : ℕ) (f : ℕ → Bool) → flags (suc n) f ≡ flags n (λ i. f (suc i)) * 2 + cond (f 0) 1 0
+unfolding flags
+flags-low zero f = omega arith
+flags-low (suc n) f = pick (f (suc n)) (flags-low n f)
+  where
+    pick : (t : Bool) → flags (suc n) f ≡ flags n (λ i. f (suc i)) * 2 + cond (f 0) 1 0
+        → cond t (2 ^ suc n) 0 + flags (suc n) f ≡ (cond t (2 ^ n) 0 + flags n (λ i. f (suc i))) * 2 + cond (f 0) 1 0
+    pick true e = omega (arith, pow-suc 2 n)
+    pick false e = omega arith
+
+pub digit : (t : Bool) → cond t 1 0 < 2
+digit true = omega arith
+digit false = omega arith
+
+pub half : (a i : ℕ) → a / 2 ^ suc i ≡ a / 2 / 2 ^ i
+half a i = let e : suc i ≡ 1 + i = omega arith in ap (λ (k : ℕ). a / 2 ^ k) e ∙ sym (shr-shr a 1 i)
+
+-- each flag is a bit of the number
+pub flag-bit : (n : ℕ) (f : ℕ → Bool) (i : ℕ) → i < n → flags n f / 2 ^ i % 2 ≡ cond (f i) 1 0
+flag-bit zero f i h = let z : ⊥ = omega arith in absurd z
+flag-bit (suc n) f zero h = rw (flags-low n f) (omega (arith, digit (f 0)))
+flag-bit (suc n) f (suc i) h =
+    let e : flags (suc n) f / 2 ≡ flags n (λ i. f (suc i)) = omega (arith, flags-low n f, digit (f 0)) in
+    rw (half (flags (suc n) f) i, e) (flag-bit n (λ i. f (suc i)) i (omega arith))

@@ -13,7 +13,7 @@ use Rattle.lane.specs.Lane.{Lane, unsigned, arithLane, shiftLane, minAbsLane, a
 use Rattle.lane.proofs.Saturated.{signed-zero, signed-sign, unsigned-zero}
 use Rattle.lane.proofs.Clamped.{clip-zero}
 use Rattle.lanes.specs.declared.Unpacked.{Unpacked}
-use Rattle.lanes.specs.Lanes.{listed, lanesOf, arithLanes, shiftLanes, clipLanes, minAbsLanes, add9Lanes, bitopLanes, logicLanes, movLanes, movImmLanes}
+use Rattle.lanes.specs.Lanes.{listed, howMany, lanesOf, arithLanes, shiftLanes, clipLanes, minAbsLanes, add9Lanes, bitopLanes, logicLanes, movLanes, movImmLanes}
 use Rattle.lanes.specs.inner.Unpacked.{
   UnpackedLane,
   packs,
@@ -35,21 +35,27 @@ use Rattle.lanes.specs.inner.Unpacked.{
 }
 use Rattle.lanes.proofs.Listed.{getD-listed, listed-same, listed-is}
 use Rattle.lanes.proofs.Packing.{flags-same}
+use Rattle.lanes.proofs.Counting.{many-same, many-none}
 
--- three lists of sixteen bytes
-pub made : (f : ℕ → UnpackedLane) {bs ts ps : List ℕ} → bs ≡ listed 16 (λ i. f i .byte) → ts ≡ listed 16 (λ i. f i .tested) → ps ≡ listed 16 (λ i. f i .top)
-    → _≡_ {A = Unpacked} (record { bytes = bs; tested = ts; tops = ps }) (unpackedOf f)
+-- three lists of sixteen bytes, and how many are told
+pub made : (f : ℕ → UnpackedLane) {bs ts ps : List ℕ} {n : ℕ} → bs ≡ listed 16 (λ i. f i .byte) → ts ≡ listed 16 (λ i. f i .tested) → ps ≡ listed 16 (λ i. f i .top)
+    → n ≡ howMany 16 (λ i. f i .clipped) → _≡_ {A = Unpacked} (record { bytes = bs; tested = ts; tops = ps; clipped = n }) (unpackedOf f)
 unfolding unpackedOf
-made f p q r = cc
+made f p q r k = cc
 
--- where no sign flag is set
+-- where none is told
+pub untold : (f : ℕ → UnpackedLane) {bs ts ps : List ℕ} → bs ≡ listed 16 (λ i. f i .byte) → ts ≡ listed 16 (λ i. f i .tested) → ps ≡ listed 16 (λ i. f i .top)
+    → ((i : ℕ) → f i .clipped ≡ false) → _≡_ {A = Unpacked} (record { bytes = bs; tested = ts; tops = ps; clipped = 0 }) (unpackedOf f)
+untold f p q r u = made f p q r (sym (many-none 16 (λ i. f i .clipped) u))
+
+-- and no sign flag is set
 pub quiet : (f : ℕ → UnpackedLane) {bs ts : List ℕ} → bs ≡ listed 16 (λ i. f i .byte) → ts ≡ listed 16 (λ i. f i .tested) → ((i : ℕ) → f i .top ≡ 0)
-    → _≡_ {A = Unpacked} (record { bytes = bs; tested = ts; tops = replicate 16 0 }) (unpackedOf f)
-quiet f p q s = made f p q (listed-is _ (replicate 16 0) refl (λ i h. rw (getD-replicate {A = ℕ} 16 i 0 0 h, s i)))
+    → ((i : ℕ) → f i .clipped ≡ false) → _≡_ {A = Unpacked} (record { bytes = bs; tested = ts; tops = replicate 16 0; clipped = 0 }) (unpackedOf f)
+quiet f p q s u = untold f p q (listed-is _ (replicate 16 0) refl (λ i h. rw (getD-replicate {A = ℕ} 16 i 0 0 h, s i))) u
 
 -- a move of what an operation made
 pub moved : (f : ℕ → ℕ) {l : List ℕ} → l ≡ listed 16 f → movUnpacked l ≡ unpackedOf (λ i. signBeside (unsigned (f i)))
-unfolding movUnpacked unpackedOf movLane listed
+unfolding movUnpacked unpackedOf movLane listed howMany
 moved f e = rw e
 
 -- one component stands for an operation's
@@ -57,6 +63,7 @@ record Stands (m : UnpackedLane) (l : Lane) : Type 0 where
   byte : m .byte ≡ l .byte
   zero : eqb (m .tested) 0 ≡ l .zero
   sign : leb 0x80 (m .top) ≡ l .sign
+  clipped : m .clipped ≡ l .clipped
 
 all-stand : (m : ℕ → UnpackedLane) (f : ℕ → Lane) → ((i : ℕ) → Stands (m i) (f i)) → packs (unpackedOf m) ≡ lanesOf f
 unfolding packs unpackedOf lanesOf zerosOf topsOf
@@ -66,7 +73,8 @@ all-stand m f s =
     let tested : List ℕ = listed 16 (λ i. m i .tested) in
     let signs = flags-same 16 (λ i. leb 0x80 (getD tops i 0)) (λ i. f i .sign) (λ i h. rw (getD-listed (λ i. m i .top) i h) (s i .sign)) in
     let zeros = flags-same 16 (λ i. eqb (getD tested i 0) 0) (λ i. f i .zero) (λ i h. rw (getD-listed (λ i. m i .tested) i h) (s i .zero)) in
-    rw (bytes, signs, zeros)
+    let clipped = many-same 16 (λ i. m i .clipped) (λ i. f i .clipped) (λ i h. s i .clipped) in
+    rw (bytes, signs, zeros, clipped)
 
 -- a flag as a byte
 pub full : (t : Bool) → leb 0x80 (cond t 255 0) ≡ t
@@ -79,13 +87,13 @@ none false = refl
 
 -- each way of leaving flags, where the byte tells the others
 both-in : (l : Lane) → l .zero ≡ eqb (l .byte) 0 → l .sign ≡ leb 0x80 (l .byte) → Stands (bothIn l) l
-both-in l z s = record { byte = refl; zero = sym z; sign = sym s }
+both-in l z s = record { byte = refl; zero = sym z; sign = sym s; clipped = refl }
 
 sign-beside : (l : Lane) → l .zero ≡ eqb (l .byte) 0 → Stands (signBeside l) l
-sign-beside l z = record { byte = refl; zero = sym z; sign = full (l .sign) }
+sign-beside l z = record { byte = refl; zero = sym z; sign = full (l .sign); clipped = refl }
 
 zero-beside : (l : Lane) → l .sign ≡ leb 0x80 (l .byte) → Stands (zeroBeside l) l
-zero-beside l s = record { byte = refl; zero = none (l .zero); sign = sym s }
+zero-beside l s = record { byte = refl; zero = none (l .zero); sign = sym s; clipped = refl }
 
 -- the operations
 pub arith-packs : (op : Calc) (signed : Bool) (a b : List ℕ) → packs (arithUnpacked op signed a b) ≡ arithLanes op signed a b

@@ -19,14 +19,25 @@ unfoldable pub flags : ℕ → (ℕ → Bool) → ℕ
 flags zero f = 0
 flags (suc n) f = cond (f n) (2 ^ n) 0 + flags n f
 
--- what an operation makes of all sixteen components: bit i of signs and of zeros is component i's flag
+-- for how many i below n f i holds
+unfoldable pub howMany : ℕ → (ℕ → Bool) → ℕ
+howMany zero f = 0
+howMany (suc n) f = cond (f n) 1 0 + howMany n f
+
+-- what an operation makes of all sixteen components: bit i of signs and of zeros is component i's flag; how many are told as clipped
 pub record Lanes : Type 0 where
   pub bytes : List ℕ
   pub signs : ℕ
   pub zeros : ℕ
+  pub clipped : ℕ
 
 unfoldable pub lanesOf : (ℕ → Lane) → Lanes
-lanesOf f = record { bytes = listed 16 (λ i. f i .byte); signs = flags 16 (λ i. f i .sign); zeros = flags 16 (λ i. f i .zero) }
+lanesOf f = record {
+  bytes = listed 16 (λ i. f i .byte);
+  signs = flags 16 (λ i. f i .sign);
+  zeros = flags 16 (λ i. f i .zero);
+  clipped = howMany 16 (λ i. f i .clipped);
+}
 
 unfoldable pub arithLanes : Calc → Bool → List ℕ → List ℕ → Lanes
 arithLanes op signed a b = lanesOf (λ i. arithLane op signed (getD a i 0) (getD b i 0))

@@ -15,6 +15,7 @@ pub fn mov(a: [u8; 16]) -> Unpacked
         bytes: a,
         tested: a,
         tops,
+        clipped: 0,
     }
 }
 
@@ -27,6 +28,7 @@ pub fn vmov(byte: u8) -> Unpacked
         bytes,
         tested: bytes,
         tops: bytes,
+        clipped: 0,
     }
 }
 

@@ -1,8 +1,8 @@
-// The flags of sixteen components, packed into one word.
+// The flags of sixteen components, packed into one word, and how many of sixteen are set.
 ghost use mathlib.Core.Path.{_≡_};
 ghost use mathlib.Core.Bool.{cond};
 ghost use Prim.Native.Nat.{_+_, _*_, _<_};
-ghost use Rattle.lanes.specs.inner.Unpacked.{zerosOf, topsOf, two, four, eight};
+ghost use Rattle.lanes.specs.inner.Unpacked.{zerosOf, topsOf, tallyOf, two, four, eight};
 
 fn bit(t: bool) -> u16
     ensures { λ r. ⌜ (r ≡ cond t 1 0) × (r < 2) ⌝ }
@@ -87,4 +87,15 @@ pub fn flags(tested: [u8; 16], tops: [u8; 16]) -> u32
     ensures { λ r. ⌜ r ≡ zerosOf tested * 65536 + topsOf tops ⌝ }
 {
     zeros(tested) as u32 * 65536 + signs(tops) as u32
+}
+
+// How many of sixteen bytes are odd. Added up in u8: one instruction adds eight of them.
+pub fn tally(t: [u8; 16]) -> u8
+    ensures { λ r. ⌜ r ≡ tallyOf t ⌝ }
+{
+    let mut n: u8 = 0;
+    for i in 0..16 {
+        n += t[i] % 2;
+    }
+    n
 }

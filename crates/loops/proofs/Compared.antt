@@ -1,14 +1,14 @@
 -- A bit operation on packed flags is the packed flags of the operation on each.
-use mathlib.Core.Path.{_≡_, refl, sym, ap, _∙_}
+use mathlib.Core.Path.{_≡_, refl, ap, _∙_}
 use mathlib.Core.Bool.{Bool, true, false, cond}
 use mathlib.Core.List.{List}
 use Prim.Native.Nat.{ℕ, zero, suc, _+_, _*_, _/_, _%_, _^_, _<_}
-use native.Mathlib.Nat.{pow-suc, suc-add, div-one}
+use native.Mathlib.Nat.{suc-add, div-one}
 use native.Mathlib.Omega.{arith}
 use lib.Bits.{bitXor, xor-self, xor-add-and, and-le-l, and-le-r}
 use lib.Dec.{eqb, ltb, leb}
 use lib.ListN.{getD}
-use lib.Pow.{shr-shr, mod-pow-add}
+use lib.Pow.{mod-pow-add}
 use borrow.Author.Tests.{ltb-true, ltb-false, eqb-true, eqb-false, eq-eqb, ne-eqb}
 use Rattle.bits.specs.Bitop.{bit, bitop}
 use Rattle.lane.specs.Lane.{Lane, apart, cmpadLane}
@@ -16,38 +16,12 @@ use Rattle.lanes.specs.declared.Flags.{Flags}
 use Rattle.lanes.specs.Lanes.{listed, flags, cmpadFlags}
 use Rattle.lanes.specs.inner.Unpacked.{zerosOf, topsOf}
 use Rattle.lanes.proofs.Listed.{element}
-use Rattle.lanes.proofs.Packing.{flags-same, tops-lt}
+use Rattle.lanes.proofs.Packing.{flags-same, flags-low, flag-bit, digit, half, tops-lt}
 use Rattle.lanes.proofs.Unpacking.{full}
 
 flags-none : (f : ℕ → Bool) → 0 ≡ flags 0 f
 unfolding flags
 flags-none f = refl
-
--- flags from the low end
-flags-low : (n : ℕ) (f : ℕ → Bool) → flags (suc n) f ≡ flags n (λ i. f (suc i)) * 2 + cond (f 0) 1 0
-unfolding flags
-flags-low zero f = omega arith
-flags-low (suc n) f = pick (f (suc n)) (flags-low n f)
-  where
-    pick : (t : Bool) → flags (suc n) f ≡ flags n (λ i. f (suc i)) * 2 + cond (f 0) 1 0
-        → cond t (2 ^ suc n) 0 + flags (suc n) f ≡ (cond t (2 ^ n) 0 + flags n (λ i. f (suc i))) * 2 + cond (f 0) 1 0
-    pick true e = omega (arith, pow-suc 2 n)
-    pick false e = omega arith
-
-digit : (t : Bool) → cond t 1 0 < 2
-digit true = omega arith
-digit false = omega arith
-
-half : (a i : ℕ) → a / 2 ^ suc i ≡ a / 2 / 2 ^ i
-half a i = let e : suc i ≡ 1 + i = omega arith in ap (λ (k : ℕ). a / 2 ^ k) e ∙ sym (shr-shr a 1 i)
-
--- each flag is a bit of the number
-flag-bit : (n : ℕ) (f : ℕ → Bool) (i : ℕ) → i < n → flags n f / 2 ^ i % 2 ≡ cond (f i) 1 0
-flag-bit zero f i h = let z : ⊥ = omega arith in absurd z
-flag-bit (suc n) f zero h = rw (flags-low n f) (omega (arith, digit (f 0)))
-flag-bit (suc n) f (suc i) h =
-    let e : flags (suc n) f / 2 ≡ flags n (λ i. f (suc i)) = omega (arith, flags-low n f, digit (f 0)) in
-    rw (half (flags (suc n) f) i, e) (flag-bit n (λ i. f (suc i)) i (omega arith))
 
 -- the operation, bit by bit
 abbrev bits-of : ℕ → ℕ → ℕ → ℕ → Bool

@@ -1,5 +1,5 @@
 -- A loop of shifts, of either sign: the bytes, and the bytes that tell whether a bit was set.
-use mathlib.Core.Path.{_≡_, ap}
+use mathlib.Core.Path.{_≡_, refl, ap}
 use mathlib.Core.Bool.{Bool, cond}
 use mathlib.Core.List.{List}
 use Prim.Native.Nat.{ℕ, _+_, _≤_, _<_}
@@ -9,7 +9,7 @@ use Rattle.lane.specs.declared.shifts.Shifted.{Shifted}
 use Rattle.lanes.specs.declared.Unpacked.{Unpacked}
 use Rattle.lanes.specs.inner.Unpacked.{shiftUnpacked}
 use Rattle.lanes.proofs.Loop.{Made, made-start, made-more, made-all}
-use Rattle.lanes.proofs.Unpacking.{made}
+use Rattle.lanes.proofs.Unpacking.{untold}
 
 pub record Shifts (signed : Bool) (a b : List ℕ) (i : ℕ) (x z : List ℕ) : Type 0 where
   pub bytes : Made (λ i. shiftLane signed (getD a i 0) (getD b i 0) .byte) i x
@@ -29,6 +29,6 @@ module _ {signed : Bool} {a b : List ℕ} where
           whole = made-more (u .whole) h (ap (λ (r : Shifted). r .whole) e);
         }
 
-    pub shifts-all : 16 ≤ i → _≡_ {A = Unpacked} (record { bytes = x; tested = z; tops = x }) (shiftUnpacked signed a b)
-    unfolding shiftUnpacked
-    shifts-all h = let e = made-all (u .bytes) h in made _ e (made-all (u .whole) h) e
+    pub shifts-all : 16 ≤ i → _≡_ {A = Unpacked} (record { bytes = x; tested = z; tops = x; clipped = 0 }) (shiftUnpacked signed a b)
+    unfolding shiftUnpacked shiftLane
+    shifts-all h = let e = made-all (u .bytes) h in untold _ e (made-all (u .whole) h) e (λ i. refl)

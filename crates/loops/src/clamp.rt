@@ -38,6 +38,7 @@ pub fn vclip(a: [u8; 16], b: [u8; 16], c: [u8; 16]) -> Unpacked
         bytes: x,
         tested: x,
         tops,
+        clipped: 0,
     }
 }
 

@@ -4,6 +4,7 @@ ghost use Rattle.lanes.specs.inner.Unpacked.{add9Unpacked};
 use crate::select;
 use lane::nine;
 use lanes::Unpacked;
+use lanes::packed;
 
 pub fn vadd9(a: [u8; 16], b: [u8; 16], c: [u8; 16]) -> Unpacked
     ensures { λ r. ⌜ r ≡ add9Unpacked a b c ⌝ }
@@ -20,5 +21,6 @@ pub fn vadd9(a: [u8; 16], b: [u8; 16], c: [u8; 16]) -> Unpacked
         bytes: x,
         tested: x,
         tops: s,
+        clipped: packed::tally(s),
     }
 }

@@ -19,6 +19,7 @@ pub fn vsar(a: [u8; 16], b: [u8; 16]) -> Unpacked
         bytes: x,
         tested: z,
         tops: x,
+        clipped: 0,
     }
 }
 
@@ -36,5 +37,6 @@ pub fn vshr(a: [u8; 16], b: [u8; 16]) -> Unpacked
         bytes: x,
         tested: z,
         tops: x,
+        clipped: 0,
     }
 }

@@ -13,14 +13,16 @@ use Rattle.terms.specs.declared.Refusal.the-variants.{Foreign, Undocumented, Si
 use Rattle.pieces.specs.State.{State, Sized, sizedOf}
 use Rattle.model.specs.Step.{Outcome, refusal, tripleOf}
 use Rattle.model.specs.Run.{RunOutcome, triples, ended, runFrom, runOf}
-use Rattle.pieces.proofs.Right.{and-true, sized-if}
+use Rattle.pieces.proofs.Right.{sized-if}
+use Rattle.terms.proofs.Sums.{and-true}
 use Rattle.model.proofs.Cells.{triple-within}
 use Rattle.model.proofs.Triples.{triples-at, triples-end}
 use Rattle.units.specs.inner.Answers.{answerOutcome}
 use Rattle.machine.specs.inner.Turns.{coveredBy}
 use Rattle.terms.specs.Answers.{number}
-use Rattle.terms.specs.inner.Runs.{endOf, countsIn}
+use Rattle.terms.specs.inner.Runs.{endOf, countsIn, amount}
 use Rattle.terms.specs.Counts.{none, plus, Within}
+use Rattle.terms.specs.declared.Counted.{Counted}
 use Rattle.terms.specs.declared.Counts.{Counts}
 use Rattle.terms.specs.declared.Answer.{Answer}
 use Rattle.terms.specs.declared.Answer.the-variants as A
@@ -63,7 +65,7 @@ module _ (b : ℕ) (ws : List ℕ) (i n : ℕ) (k : Counts) (s : State) where
 
     -- x and t are the triple's answer and the state after it
     module _ (x : Answer) (t : State) (e : answerOutcome x t ≡ tripleOf (getD ws i 0) (getD ws (i + 1) 0) (getD ws (i + 2) 0) s) (f : n ≡ b → ⊥) where
-      pub turn : (m : Counts) → x ≡ A.Done m → runFrom b (triples (drop i ws)) n k s ≡ runFrom b (triples (drop (i + 3) ws)) (n + 1) (plus k m) t
+      pub turn : (m : Counted) → x ≡ A.Done m → runFrom b (triples (drop i ws)) n k s ≡ runFrom b (triples (drop (i + 3) ws)) (n + 1) (plus k (amount m)) t
       unfolding runFrom
       turn m d = rw (triples-at ws i h, ne-eqb n b f, ← e, d) refl
 
@@ -102,6 +104,6 @@ module _ (ws : List ℕ) (b i n : ℕ) (at : i ≡ n * 3) where
           ]
 
 -- a triple counts no more than one step may
-pub cheap : (x : Answer) (t : State) (w side mask : ℕ) (s : State) → answerOutcome x t ≡ tripleOf w side mask s → (m : Counts) → x ≡ A.Done m → Within 1 m
+pub cheap : (x : Answer) (t : State) (w side mask : ℕ) (s : State) → answerOutcome x t ≡ tripleOf w side mask s → (m : Counted) → x ≡ A.Done m → Within 1 (amount m)
 cheap x t w side mask s e m d =
     subst (λ (y : Answer). Within 1 (countsIn y)) d (subst (λ (o : Outcome). Within 1 (o .counts)) (sym e) (triple-within w side mask s))

@@ -72,7 +72,7 @@ fn turns(
         let Answer::Done(n) = x else {
             return report(terms::end_of(x), (i / 3) as u32, counts);
         };
-        counts = terms::sum(counts, n);
+        counts = terms::more(counts, n);
         i += 3;
     }
     report(ending(i, words.len()), (i / 3) as u32, counts)

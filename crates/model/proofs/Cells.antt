@@ -1,4 +1,4 @@
--- A step counts the distinct (bank, cell) pairs of its address list, at most sixteen.
+-- A step counts the distinct (bank, cell) pairs of its address list, at most sixteen; and no step counts more than it may.
 use mathlib.Core.Path.{_≡_, refl, ap, _∙_}
 use Prim.Native.Nat.{ℕ, _≤_, zero-le}
 use mathlib.Core.Bool.{Bool, true, false, cond}
@@ -20,13 +20,14 @@ use Rattle.words.specs.Decoded.{Decoded}
 use Rattle.words.specs.Decoded as D
 use Rattle.pieces.specs.State.{State, sizedOf}
 use Rattle.pieces.specs.Place.{Addr, Xlat, xlat}
-use Rattle.model.specs.Prog.{Prog, ret, _>>=_, run, Write, idle, Did, Done, countsOf, done}
+use Rattle.model.specs.Prog.{Prog, ret, _>>=_, run, Write, idle, Did, Done, cells, done}
 use Rattle.model.specs.Prog as P
 use Rattle.model.specs.Address.{address, increment, span, loads, from, loading}
 use Rattle.model.specs.Vector.{vector}
 use Rattle.model.specs.Claims.{pairsAt, pairsA, pairs}
 use Rattle.model.specs.Step.{did, countsX, counted, outcome, byDecoded, tripleOf, stepOf}
 use Rattle.model.proofs.Laws.{run-bind}
+use Rattle.model.proofs.Clipped.{clipped-le}
 
 -- an access enters the pairs of its address list
 span-are : (way : Way) (c x : ℕ) → P.entered (span way c x) ≡ distinct (pairsAt way c x)
@@ -34,12 +35,12 @@ span-are way c x = ap distinct (map-map (λ (b : Addr). pairOf (b .stride) (b .a
 
 -- the accesses that a program's result counts
 abbrev cost : Xlat → Prog Did → State → ℕ
-cost X m s = countsOf (run X m s .access) .accesses
+cost X m s = cells (run X m s .access)
 
 module _ (X : Xlat) (s : State) where
   -- a program that goes on counts what its second part counts
   cost-bind : {Y : Type 0} (m : Prog Y) (f : Y → Prog Did) → cost X (m >>= f) s ≡ cost X (f (run X m s)) s
-  cost-bind m f = ap (λ (d : Did). countsOf (d .access) .accesses) (run-bind X m f s)
+  cost-bind m f = ap (λ (d : Did). cells (d .access)) (run-bind X m f s)
 
   loading-are : (way : Way) (n c x : ℕ) (rest : List Write) → cost X (loading way n c x rest) s ≡ distinct (pairsAt way c x)
   loading-are way n c x rest = cost-bind (loads (span way c x)) _ ∙ span-are way c x
@@ -101,7 +102,7 @@ pairs-le N.Nop s = zero-le
 
 -- no instruction counts more than one step may
 pub counted-within : (i : Insn) (s : State) → Within 1 (counted i s)
-counted-within i s = record { accesses = rw (accesses-are i s) (pairs-le i s) }
+counted-within i s = record { accesses = rw (accesses-are i s) (pairs-le i s); clipped = clipped-le i s }
 
 decoded-within : (d : Decoded) (s : State) → Within 1 (byDecoded d s .counts)
 decoded-within (D.Insn i) s = counted-within i s

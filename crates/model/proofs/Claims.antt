@@ -21,6 +21,7 @@ use Rattle.model.proofs.Numbers.{step-exactly}
 use Rattle.model.proofs.Lists.{starts}
 use Rattle.model.proofs.Listed.{finished-at, spent-at, stopped-at, steps-leave}
 use Rattle.model.proofs.Cells.{accesses-are}
+use Rattle.model.proofs.Clipped.{clipped-are}
 use Rattle.model.proofs.Match.{reads-are, writes-are}
 use Rattle.model.proofs.Commute.{commutes, accepted, swapped}
 use Rattle.model.proofs.Neighbours.{neighbours}
@@ -52,7 +53,7 @@ does word side mask s h = go (sizedOf s) refl (decodeOf word side mask) refl
     go false z d e = absurd (omega (arith, h, five-iff word side mask s .1 (λ (q : Sized s). clash (sym z ∙ sized-only s q))))
 
 pub demand2 : Demand2
-demand2 = record { step = does; accesses = accesses-are; list = steps-leave }
+demand2 = record { step = does; accesses = accesses-are; clipped = clipped-are; list = steps-leave }
 
 pub demand3 : Demand3
 demand3 = record {

@@ -1,4 +1,4 @@
--- Document 01's worked examples 4 to 10 and document 02's of wish 1, from instruction words.
+-- Document 01's worked examples 4 to 10 and document 02's of wishes 1 and 4, from instruction words.
 use mathlib.Core.Path.{_≡_, refl, ap, _∙_}
 use Prim.Native.Nat.{ℕ, _+_, _*_, _/_, _%_, _<_}
 use native.Mathlib.Omega.{arith}
@@ -11,14 +11,14 @@ use Rattle.banks.specs.Line.{line, rowStart, startOf, addresses}
 use Rattle.banks.specs.Line as L
 use Rattle.terms.specs.declared.Way.the-variants.{Horizontal}
 use Rattle.signed.specs.Signed.{sext, widen, low, clip, shifted}
-use Rattle.lane.specs.Lane.{saturated, result, arithLane, shiftLane, clipBetween, clipLane, add9Lane}
-use Rattle.lanes.specs.Lanes.{lanesOf, listed, flags, arithLanes, shiftLanes, clipLanes, add9Lanes}
+use Rattle.lane.specs.Lane.{outside, saturated, result, arithLane, shiftLane, clipBetween, clipLane, add9Lane}
+use Rattle.lanes.specs.Lanes.{lanesOf, listed, flags, howMany, arithLanes, shiftLanes, clipLanes, add9Lanes}
 use Rattle.words.specs.Fields.{fieldsOf}
 use Rattle.words.specs.Table.{decodeOf, decodeAt, rows}
 use Rattle.pieces.specs.State.{State, Sized, state}
 use Rattle.pieces.specs.Place.{xlat}
 use Rattle.model.specs.Address.{span}
-use Rattle.terms.specs.Counts.{none, entering}
+use Rattle.terms.specs.Counts.{counts, none}
 use Rattle.model.specs.Step.{stepped, counted, outcome, byDecoded, tripleOf, stepOf}
 use Rattle.model.proofs.Laws.{gathered}
 use Rattle.model.proofs.Refused.{step-sized}
@@ -34,7 +34,7 @@ module _ (ds rest r cs vc v : List ℕ) (c : ℕ) where
   -- 5: ldvh by $a0 with addr 0x10, limit 0x20 and UIMM 0x10 loads from the address 0x10 and gives end 1
   pub example5 : (side mask : ℕ)
       → tripleOf 0xd8000080 side mask (state ds (0x00200010 ∷ rest) r (c ∷ cs) vc v)
-      ≡ outcome 0 (entering 16) (state ds (0x00200010 ∷ rest) r ((c / 2048 * 2048 + 1024 + c % 1024) ∷ cs) vc
+      ≡ outcome 0 (counts 16 0) (state ds (0x00200010 ∷ rest) r ((c / 2048 * 2048 + 1024 + c % 1024) ∷ cs) vc
       (sets v 0 (take 16 (gathered xlat ds (span Horizontal 0 0x10)))))
   unfolding tripleOf decodeOf decodeAt rows fieldsOf stepped counted addresses line startOf L.stepOf rowStart pairOf bankOf turnOf cellOf
   example5 side mask = refl
@@ -57,51 +57,51 @@ module _ (ds a r c vc v : List ℕ) (old was : ℕ) where
 
   module _ (side mask : ℕ) where
     -- on pieces of right lengths the single call for the word does so, whatever its side inputs
-    pub record Gives (word : ℕ) (xs ys : List ℕ) (byte signs zeros : ℕ) : Type 0 where
-      pub gives : Sized (before xs ys) → stepOf word side mask (before xs ys) ≡ outcome 0 none (leaves xs ys byte signs zeros)
+    pub record Gives (word : ℕ) (xs ys : List ℕ) (byte signs zeros clipped : ℕ) : Type 0 where
+      pub gives : Sized (before xs ys) → stepOf word side mask (before xs ys) ≡ outcome 0 (counts 0 clipped) (leaves xs ys byte signs zeros)
 
     -- from what the word's triple writes: first the signs, then the zeros
-    worked : {word : ℕ} {xs ys : List ℕ} {byte signs zeros : ℕ} → signs < 65536
+    worked : {word : ℕ} {xs ys : List ℕ} {byte signs zeros clipped : ℕ} → signs < 65536
         → tripleOf word side mask (before xs ys)
-        ≡ outcome 0 none (state ds a r c ((zeros * 65536 + (was / 65536 * 65536 + signs % 65536) % 65536) ∷ vc) (xs ++ (ys ++ (all byte ++ v))))
-        → Gives word xs ys byte signs zeros
-    worked {word} {xs} {ys} {byte} h e = record {
+        ≡ outcome 0 (counts 0 clipped) (state ds a r c ((zeros * 65536 + (was / 65536 * 65536 + signs % 65536) % 65536) ∷ vc) (xs ++ (ys ++ (all byte ++ v))))
+        → Gives word xs ys byte signs zeros clipped
+    worked {word} {xs} {ys} {byte} {clipped = n} h e = record {
       gives = λ z.
           step-sized word side mask (before xs ys) z ∙ e
-          ∙ ap (λ (x : ℕ). outcome 0 none (state ds a r c (x ∷ vc) (xs ++ (ys ++ (all byte ++ v))))) (omega arith);
+          ∙ ap (λ (x : ℕ). outcome 0 (counts 0 n) (state ds a r c (x ∷ vc) (xs ++ (ys ++ (all byte ++ v))))) (omega arith);
     }
 
-    -- 6: vadd s of 0x64 and 0x64 gives 0x7f, sign 0; vneg s of 0x80 gives 0x7f, sign 0
-    pub example6-vadd : Gives 0x8c100200 (all 0x64) (all 0x64) 0x7f 0 0
-    unfolding tripleOf decodeOf decodeAt rows fieldsOf stepped counted arithLanes lanesOf listed flags arithLane saturated result widen sext low clip
+    -- 6: vadd s of 0x64 and 0x64 gives 0x7f, sign 0, and document 02's of wish 4: "in every component the count is 16"; vneg s of 0x80 gives 0x7f, sign 0
+    pub example6-vadd : Gives 0x8c100200 (all 0x64) (all 0x64) 0x7f 0 0 16
+    unfolding tripleOf decodeOf decodeAt rows fieldsOf stepped counted arithLanes lanesOf listed flags howMany arithLane saturated outside result widen sext low clip
     example6-vadd = worked (lit< tt) refl
 
-    pub example6-vneg : Gives 0x8b100000 (all 0x80) (all 0) 0x7f 0 0
-    unfolding tripleOf decodeOf decodeAt rows fieldsOf stepped counted arithLanes lanesOf listed flags arithLane saturated result widen sext low clip
+    pub example6-vneg : Gives 0x8b100000 (all 0x80) (all 0) 0x7f 0 0 16
+    unfolding tripleOf decodeOf decodeAt rows fieldsOf stepped counted arithLanes lanesOf listed flags howMany arithLane saturated outside result widen sext low clip
     example6-vneg = worked (lit< tt) refl
 
     -- 7: vsub u of 0 and 1 gives 0, sign 1, zero 1
-    pub example7 : Gives 0x9d100200 (all 0) (all 1) 0 0xffff 0xffff
-    unfolding tripleOf decodeOf decodeAt rows fieldsOf stepped counted arithLanes lanesOf listed flags arithLane saturated result widen sext low clip
+    pub example7 : Gives 0x9d100200 (all 0) (all 1) 0 0xffff 0xffff 16
+    unfolding tripleOf decodeOf decodeAt rows fieldsOf stepped counted arithLanes lanesOf listed flags howMany arithLane saturated outside result widen sext low clip
     example7 = worked (lit< tt) refl
 
     -- 8: vshr of 0x80 by 0x0f gives 0, sign 0, zero 0; vsar of 0x80 by 7 gives 0xff, sign 1
-    pub example8-vshr : Gives 0x9e100200 (all 0x80) (all 0x0f) 0 0 0
-    unfolding tripleOf decodeOf decodeAt rows fieldsOf stepped counted shiftLanes lanesOf listed flags shiftLane shifted widen sext low
+    pub example8-vshr : Gives 0x9e100200 (all 0x80) (all 0x0f) 0 0 0 0
+    unfolding tripleOf decodeOf decodeAt rows fieldsOf stepped counted shiftLanes lanesOf listed flags howMany shiftLane shifted widen sext low
     example8-vshr = worked (lit< tt) refl
 
-    pub example8-vsar : Gives 0x8e100200 (all 0x80) (all 7) 0xff 0xffff 0
-    unfolding tripleOf decodeOf decodeAt rows fieldsOf stepped counted shiftLanes lanesOf listed flags shiftLane shifted widen sext low
+    pub example8-vsar : Gives 0x8e100200 (all 0x80) (all 7) 0xff 0xffff 0 0
+    unfolding tripleOf decodeOf decodeAt rows fieldsOf stepped counted shiftLanes lanesOf listed flags howMany shiftLane shifted widen sext low
     example8-vsar = worked (lit< tt) refl
 
     -- 9: vadd9 of 0x10 and 0x1f0 gives 0, sign 0, zero 1. Both of its second sources are $v1, which holds 0x1f0 eight times
-    pub example9 : Gives 0x9f100210 (all 0x10) nine 0 0 0xffff
-    unfolding tripleOf decodeOf decodeAt rows fieldsOf stepped counted add9Lanes lanesOf listed flags add9Lane saturated sext low clip
+    pub example9 : Gives 0x9f100210 (all 0x10) nine 0 0 0xffff 0
+    unfolding tripleOf decodeOf decodeAt rows fieldsOf stepped counted add9Lanes lanesOf listed flags howMany add9Lane saturated outside sext low clip
     example9 = worked (lit< tt) refl
 
     -- document 02, wish 1: 5 clipped to 5 and 9 gives 5 with sign 1. Sources 1 and 2 are both $v0
-    pub wish1 : Gives 0xa4100010 (all 5) (all 9) 5 0xffff 0
-    unfolding tripleOf decodeOf decodeAt rows fieldsOf stepped counted clipLanes lanesOf listed flags clipLane clipBetween sext low
+    pub wish1 : Gives 0xa4100010 (all 5) (all 9) 5 0xffff 0 0
+    unfolding tripleOf decodeOf decodeAt rows fieldsOf stepped counted clipLanes lanesOf listed flags howMany clipLane clipBetween sext low
     wish1 = worked (lit< tt) refl
 
 -- there are such states, whatever the sixteen bytes of $v0 and of $v1 are; the last two are for the sources of 6 to 8 and wish 1, and of 9

@@ -5,6 +5,9 @@ pub mod Lengths
 pub mod Refused
 pub mod Numbers
 pub mod Ignored
+pub mod Telling
+pub mod Stored
+pub mod Clipped
 pub mod Cells
 pub mod Lists
 pub mod Listed

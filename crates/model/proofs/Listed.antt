@@ -16,7 +16,8 @@ use Rattle.model.specs.Claims.{callAt, metAt, countAt, AllDone, Comes, F
 use Rattle.pieces.proofs.Right.{sized-only}
 use Rattle.model.proofs.Triples.{triples-at, triples-end, opening}
 use Rattle.model.proofs.Lengths.{sized-stepOf}
-use Rattle.model.proofs.Refused.{refused-after, refused-as, step-sized, refusal-range, refusal-inj}
+use Rattle.terms.proofs.Inverse.{refused-inj}
+use Rattle.model.proofs.Refused.{refused-after, refused-as, step-sized, refusal-range}
 
 -- whole triples are left or none
 whole-left : (n l : ℕ) → l % 3 ≡ 0 → n * 3 < l → n * 3 + 2 < l
@@ -167,7 +168,7 @@ module _ (budget : ℕ) (ws : List ℕ) (s : State) where
       go : r .number ≡ refusal k → Ends budget ws s r → (n : ℕ) × Stopped k budget ws s n
       go e (finished q h) = absurd (omega (arith, refusal-range k))
       go e (spent q h) = absurd (omega (arith, refusal-range k))
-      go e (stopped j q h) = (r .steps, subst (λ (i : Refusal). Stopped i budget ws s (r .steps)) (refusal-inj j k (sym q ∙ e)) h)
+      go e (stopped j q h) = (r .steps, subst (λ (i : Refusal). Stopped i budget ws s (r .steps)) (refused-inj j k (sym q ∙ e)) h)
 
   -- whatever ends as o does, the call leaves what the steps of o leave, one after the other
   ends-leave : (o : RunOutcome) → Ends budget ws s o → r ≡ ended (o .number) (o .steps) (countAt (o .steps) ws s) (metAt (o .steps) ws s)

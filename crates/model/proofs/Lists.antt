@@ -145,9 +145,9 @@ steps-budget budget ws s = bounds budget ws s .budgeted
 pub steps-length : (budget : ℕ) (ws : List ℕ) (s : State) → runOf budget ws s .steps * 3 ≤ length ws
 steps-length budget ws s = omega (arith, bounds budget ws s .listed)
 
--- nor counts more than its steps may: of the accesses, sixteen for each
-pub accesses-steps : (budget : ℕ) (ws : List ℕ) (s : State) → Within (runOf budget ws s .steps) (runOf budget ws s .counts)
-accesses-steps budget ws s = bounds budget ws s .counted
+-- nor counts more than its steps may: sixteen of either for each
+pub counts-steps : (budget : ℕ) (ws : List ℕ) (s : State) → Within (runOf budget ws s .steps) (runOf budget ws s .counts)
+counts-steps budget ws s = bounds budget ws s .counted
 
 -- ---- 5 and 6
 

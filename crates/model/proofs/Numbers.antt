@@ -20,7 +20,8 @@ use Rattle.pieces.specs.State.{State, sizedOf}
 use Rattle.model.specs.Claims.{foreign, documented, sidedOps, sided, masked, Exactly}
 use Rattle.terms.specs.Counts as K
 use Rattle.model.specs.Step.{outcome, refusal, byDecoded, tripleOf, stepOf}
-use Rattle.pieces.proofs.Right.{clash, and-true, sized-if, sized-only}
+use Rattle.pieces.proofs.Right.{clash, sized-if, sized-only}
+use Rattle.terms.proofs.Sums.{and-true}
 use Rattle.model.proofs.Refused.{five-iff}
 
 -- "3 and 4 can't meet"
@@ -53,7 +54,7 @@ table f side mask true false e g = rw (e, g)
 table f side mask false true e g = rw (e, g)
 table f side mask false false e g = rw (e, g)
 
-from-at : (g : ℕ → ℕ) (d j n k : ℕ) → k < n → getD (map g (from j n)) k d ≡ g (j + k)
+pub from-at : (g : ℕ → ℕ) (d j n k : ℕ) → k < n → getD (map g (from j n)) k d ≡ g (j + k)
 from-at g d j zero k h = absurd (omega arith)
 from-at g d j (suc n) zero h = rw add-zero
 from-at g d j (suc n) (suc k) h = rw (add-suc, ← suc-add) (from-at g d (suc j) n k (le-of-suc-le-suc h))

@@ -8,9 +8,7 @@ use borrow.Author.Tests.{eqb-true}
 use lib.Dec.{eqb}
 use lib.ListN.{length}
 use Rattle.terms.specs.Counts.{none}
-use Rattle.terms.proofs.Inverse.{answer-inj}
-use Rattle.terms.specs.declared.Answer.{Answer}
-use Rattle.terms.specs.declared.Answer.the-variants as A
+use Rattle.terms.proofs.Inverse.{refused-inj}
 use Rattle.words.specs.Table.{decodeOf}
 use Rattle.terms.specs.declared.Refusal.{Refusal}
 use Rattle.terms.specs.declared.Refusal.the-variants.{Foreign, Undocumented, SideIndex, SideMask}
@@ -53,16 +51,6 @@ refused-counts word side mask s h = ap (λ (o : Outcome). o .counts) (refused wo
 
 -- ---- the numbers by what the word decodes to
 
--- an answer's refusal
-which : Refusal → Answer → Refusal
-which d (A.Done c) = d
-which d (A.Refused k) = k
-
--- their numbers tell them apart
-pub refusal-inj : (j k : Refusal) → refusal j ≡ refusal k → j ≡ k
-unfolding which
-refusal-inj j k e = ap (which j) (answer-inj (A.Refused j) (A.Refused k) e refl)
-
 -- the refusals of a triple have the numbers 1 to 4
 pub refusal-range : (k : Refusal) → (1 ≤ refusal k) × (refusal k ≤ 4)
 refusal-range Foreign = omega arith
@@ -81,7 +69,7 @@ triple-number-le word side mask s = go (decodeOf word side mask)
 
 decoded-refusal : (d : Decoded) (k : Refusal) (s : State) → byDecoded d s .number ≡ refusal k → d ≡ D.Refused k
 decoded-refusal (D.Insn i) k s e = absurd (omega (arith, refusal-range k))
-decoded-refusal (D.Refused j) k s e = ap D.Refused (refusal-inj j k e)
+decoded-refusal (D.Refused j) k s e = ap D.Refused (refused-inj j k e)
 
 module _ (word side mask : ℕ) (s : State) where
   -- on pieces of right lengths the single call is the triple

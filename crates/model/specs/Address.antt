@@ -107,11 +107,11 @@ from Scalar n = do
 abbrev pub loading : Way → ℕ → ℕ → ℕ → List Write → Prog Did
 loading way n c x rest = do
   xs ← loads (span way c x)
-  ret (record { writes = into way n xs ∷ rest; access = load way c (span way c x) })
+  ret (record { writes = into way n xs ∷ rest; access = load way c (span way c x); clipped = 0 })
 
 -- for idx in range(16): DS[addr[idx]] = $v[SRC1][idx]
 abbrev pub storing : Way → ℕ → ℕ → List ℕ → List Write → Prog Did
-storing way c x xs rest = ret (record { writes = stores (span way c x) xs ++ rest; access = store way c (span way c x) })
+storing way c x xs rest = ret (record { writes = stores (span way c x) xs ++ rest; access = store way c (span way c x); clipped = 0 })
 
 -- "the sum is taken modulo 65,536 and only addr changes"
 abbrev pub plus : ℕ → ℕ → ℕ

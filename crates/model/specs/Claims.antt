@@ -1,13 +1,17 @@
 -- The three demands of document 01, as statements about the single call `stepOf`, the list call `runOf` and the table of places. Their
 -- proofs are `demand1`, `demand2` and `demand3` in proofs/Claims.antt. That the code does what the two calls say is its contract.
-use Prim.Native.Nat.{ℕ, zero, suc, _+_, _*_, _%_, _≤_, _<_}
+use Prim.Native.Nat.{ℕ, zero, suc, _+_, _-_, _*_, _%_, _≤_, _<_}
 use mathlib.Core.Path.{_≡_}
 use mathlib.Core.Logic.{_↔_}
-use mathlib.Core.Bool.{Bool, true, false, cond, not, _||_}
+use mathlib.Core.Bool.{Bool, true, false, cond, not, _||_, _&&_}
 use mathlib.Core.List.{List, [], _∷_, _++_, map, List·Memᴰ}
 use lib.Bits.{bitOr}
 use lib.Dec.{eqb, ltb, leb}
+use lib.IntN.{pos, _+ℤ_}
 use lib.ListN.{length, getD}
+use Rattle.signed.specs.Signed.{sext, widen}
+use Rattle.lane.specs.Lane.{outside, result, tells}
+use Rattle.lanes.specs.Lanes.{howMany, pairAt}
 use Rattle.banks.specs.Bank.{pairOf}
 use Rattle.banks.specs.Line.{addresses, has, distinct}
 use Rattle.terms.specs.declared.Way.{Way}
@@ -18,11 +22,15 @@ use Rattle.terms.specs.declared.Counts.{Counts}
 use Rattle.terms.specs.declared.Refusal.{Refusal}
 use Rattle.words.specs.Address.{Address}
 use Rattle.words.specs.Address as A
+use Rattle.words.specs.Second.{Second}
+use Rattle.words.specs.Second as S
+use Rattle.words.specs.Vector.{Vector}
+use Rattle.words.specs.Vector as W
 use Rattle.words.specs.Insn.{Insn}
 use Rattle.words.specs.Insn as N
 use Rattle.words.specs.Decoded as D
 use Rattle.pieces.specs.State.{State, Sized}
-use Rattle.pieces.specs.Place.{Place, Xlat, xlat}
+use Rattle.pieces.specs.Place.{Place, Xlat, xlat, vec, get}
 use Rattle.model.specs.Prog.{run, asked, spots}
 use Rattle.model.specs.Step.{sem, stepX, countsX, stepped, counted, Outcome, outcome, refusal, stepOf}
 use Rattle.model.specs.Run.{RunOutcome, ended, runOf}
@@ -142,7 +150,8 @@ pub record Demand1 : Type 0 where
   pub list : (budget : ℕ) (ws : List ℕ) (s : State) → ListAnswered budget ws s
 
 -- ---- Demand 2: every accepted instruction gives document 01's registers, flags and data store; a list gives what its steps give one
--- after the other; the accesses reported are the distinct (bank, cell) pairs of the address lists
+-- after the other; the accesses reported are the distinct (bank, cell) pairs of the address lists, the clipped components those whose true
+-- result lay outside the clip range
 
 -- an accepted word is an instruction, whose meaning `stepped` the call gives
 pub record Does (word side mask : ℕ) (s : State) : Type 0 where
@@ -169,6 +178,45 @@ pairs (N.Address i) s = pairsA i s
 pairs (N.Vector i) s = []
 pairs N.Nop s = []
 
+-- the sixteen bytes of $v[n], and component i of them
+abbrev pub bytesOf : State → ℕ → List ℕ
+bytesOf s n = get xlat (vec n) s
+
+abbrev pub component : State → ℕ → ℕ → ℕ
+component s n i = getD (bytesOf s n) i 0
+
+-- component i of source 2: a register's, or BIMM; vabs and vneg have none
+abbrev pub secondAt : Second → State → ℕ → ℕ
+secondAt (S.Register n) s i = component s n i
+secondAt (S.Byte b) s i = b
+secondAt S.Absent s i = 0
+
+-- the nine bits that vadd9 adds to component i: source 2 feeds components 0-7, source 3 feeds 8-15
+abbrev pub addend : State → ℕ → ℕ → ℕ → ℕ
+addend s src2 src3 i = cond (ltb i 8) (pairAt (bytesOf s src2) i) (pairAt (bytesOf s src3) (i - 8))
+
+-- "For vadd, vsub, vneg, vabs and vadd9 .. whether the true result lay outside the clip range", of component i; "all others count 0"
+abbrev pub clipsV : Vector → State → ℕ → Bool
+clipsV (W.Arith o) s i =
+    tells (o .calc)
+    && outside (o .signed) (result (o .calc) (widen (o .signed) (component s (o .src1) i)) (widen (o .signed) (secondAt (o .second) s i)))
+clipsV (W.Add9 o) s i = outside false (pos (component s (o .src1) i) +ℤ sext (addend s (o .src2) (o .src3) i) 8)
+clipsV (W.Shift o) s i = false
+clipsV (W.Clip o) s i = false
+clipsV (W.MinAbs o) s i = false
+clipsV (W.Bitop o) s i = false
+clipsV (W.Logic o) s i = false
+clipsV (W.Cmpad o) s i = false
+clipsV (W.Swz o) s i = false
+clipsV (W.Mov o) s i = false
+clipsV (W.MovImm o) s i = false
+clipsV (W.MovFlags dst) s i = false
+
+abbrev pub clips : Insn → State → ℕ → Bool
+clips (N.Address i) s k = false
+clips (N.Vector i) s k = clipsV i s k
+clips N.Nop s k = false
+
 -- o stops where document 01 says, with its number: after all triples, where the budget is spent, or before the first triple that is refused.
 -- Each says `Comes`: so many triples as o reports are done
 pub data Ends (budget : ℕ) (ws : List ℕ) (s : State) (o : RunOutcome) : Type 0 where
@@ -185,6 +233,8 @@ pub record OneByOne (budget : ℕ) (ws : List ℕ) (s : State) (o : RunOutcome) 
 pub record Demand2 : Type 0 where
   pub step : (word side mask : ℕ) (s : State) → stepOf word side mask s .number ≡ 0 → Does word side mask s
   pub accesses : (i : Insn) (s : State) → counted i s .accesses ≡ distinct (pairs i s)
+  -- wish 4: "the step's answer gives how many of the 16 did, and the run the total"
+  pub clipped : (i : Insn) (s : State) → counted i s .clipped ≡ howMany 16 (clips i s)
   pub list : (budget : ℕ) (ws : List ℕ) (s : State) → Sized s → length ws % 3 ≡ 0 → OneByOne budget ws s (runOf budget ws s)
 
 -- ---- Demand 3: two accepted instructions, neither of which writes a place that the other reads or writes, end in the same state in both

@@ -1,4 +1,5 @@
--- What an instruction does: it asks what places hold, one after the other, and ends with what it writes and which access it made.
+-- What an instruction does: it asks what places hold, one after the other, and ends with what it writes, which access it made, and how many
+-- components it tells as clipped.
 -- So all sources are read before anything is written, and all that an instruction can depend on is what it asked.
 use Prim.Native.Nat.{ℕ}
 use mathlib.Core.Bool.{cond}
@@ -8,7 +9,7 @@ use Rattle.banks.specs.Bank.{pairOf}
 use Rattle.banks.specs.Line.{distinct}
 use Rattle.terms.specs.declared.Way.{Way}
 use Rattle.terms.specs.declared.Counts.{Counts}
-use Rattle.terms.specs.Counts.{none, entering}
+use Rattle.terms.specs.Counts.{counts}
 use Rattle.pieces.specs.State.{State}
 use Rattle.pieces.specs.Place.{Name, Addr, Place, Xlat, Val, get, put, place}
 
@@ -64,9 +65,10 @@ pub data Access : Type 0 where
 pub record Did : Type 0 where
   pub writes : List Write
   pub access : Access
+  pub clipped : ℕ
 
 abbrev pub only : List Write → Did
-only ws = record { writes = ws; access = idle }
+only ws = record { writes = ws; access = idle; clipped = 0 }
 
 -- what one step hands back
 pub record Done : Type 0 where
@@ -77,10 +79,10 @@ pub record Done : Type 0 where
 abbrev pub entered : List Addr → ℕ
 entered bs = distinct (map (λ (b : Addr). pairOf (b .stride) (b .addr)) bs)
 
-abbrev pub countsOf : Access → Counts
-countsOf idle = none
-countsOf (load way c bs) = entering (entered bs)
-countsOf (store way c bs) = entering (entered bs)
+abbrev pub cells : Access → ℕ
+cells idle = 0
+cells (load way c bs) = entered bs
+cells (store way c bs) = entered bs
 
 abbrev pub done : Did → Done
-done d = record { writes = d .writes; counts = countsOf (d .access) }
+done d = record { writes = d .writes; counts = counts (cells (d .access)) (d .clipped) }

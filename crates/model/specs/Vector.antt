@@ -14,15 +14,15 @@ use Rattle.words.specs.Input.{Mask, Signs}
 use Rattle.words.specs.Vector.{Vector}
 use Rattle.words.specs.Vector.{Arith, Shift, Clip, Add9, MinAbs, Bitop, Logic, Cmpad, Swz, Mov, MovImm, MovFlags}
 use Rattle.pieces.specs.Place.{vec, signs, zeros}
-use Rattle.model.specs.Prog.{Prog, ret, _>>=_, read, Write, _≔_, below4, Did, only}
+use Rattle.model.specs.Prog.{Prog, ret, _>>=_, read, Write, _≔_, below4, idle, Did, only}
 
 -- $vc[VCDST].sf and .zf
 abbrev pub flagsTo : ℕ → ℕ → ℕ → List Write
 flagsTo vcdst sf zf = below4 vcdst ((signs vcdst ≔ sf) ∷ (zeros vcdst ≔ zf) ∷ [])
 
--- $v[DST], and the flags of its components
+-- $v[DST], and the flags of its components; those that are told as clipped are counted, whether flags are written or not
 abbrev pub lanesTo : ℕ → ℕ → Lanes → Did
-lanesTo dst vcdst l = only ((vec dst ≔ l .bytes) ∷ flagsTo vcdst (l .signs) (l .zeros))
+lanesTo dst vcdst l = record { writes = (vec dst ≔ l .bytes) ∷ flagsTo vcdst (l .signs) (l .zeros); access = idle; clipped = l .clipped }
 
 -- source 2: a register, or BIMM in each component; where there is none, zeros stand in its place, and vabs and vneg look at none of them
 abbrev pub second : Second → Prog (List ℕ)

@@ -51,6 +51,7 @@ enum Which {
     Answer,
     Steps,
     Cells,
+    Clipped,
 }
 
 fn total(line: &[u8], which: Which) -> Expected {
@@ -62,6 +63,7 @@ fn total(line: &[u8], which: Which) -> Expected {
         Which::Answer => Expected::Answer(n),
         Which::Steps => Expected::Steps(n),
         Which::Cells => Expected::Cells(n),
+        Which::Clipped => Expected::Clipped(n),
     }
 }
 
@@ -75,6 +77,9 @@ fn counted(line: &[u8]) -> Expected {
     }
     if is(line, 0, b"cells") {
         return total(line, Which::Cells);
+    }
+    if is(line, 0, b"clipped") {
+        return total(line, Which::Clipped);
     }
     if is(line, 0, b"banks") {
         return banks(line, next(line, 0));

@@ -85,6 +85,7 @@ pub enum Expected {
     Answer(u32),
     Steps(u32),
     Cells(u32),
+    Clipped(u32),
     Banks(usize),
     Wrong(Fault),
 }

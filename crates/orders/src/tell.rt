@@ -54,7 +54,9 @@ fn say_form(wanted: Wanted) {
             say(b"the name of an instruction, or a word of eight hexadecimal digits")
         }
         Wanted::Compared => {
-            say(b"a register, row, column, bank, answer, steps, cells, banks or a dot line")
+            say(
+                b"a register, row, column, bank, answer, steps, cells, clipped, banks or a dot line",
+            )
         }
         Wanted::Dot => say(b".set, .bytes, .fill, .show or .budget"),
         Wanted::StartDot => say(b".set, .bytes, .fill or .budget"),

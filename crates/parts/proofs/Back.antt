@@ -110,7 +110,7 @@ words-back p g =
     let four : (i j k m : ℕ) → split (joined (getD l i 0 ∷ getD l j 0 ∷ getD l k 0 ∷ getD l m 0 ∷ [])) ≡ getD l i 0 ∷ getD l j 0 ∷ getD l k 0 ∷ getD l m 0 ∷ [] =
     λ i j k m. split-joined (getD l i 0) (getD l j 0) (getD l k 0) (getD l m 0) (at i) (at j) (at k) (at m) in
     λ i.
-    struct (p .budget) (over (p .over) i) (back (numbered (p .number)) i) (p .steps) (counts (halves (p .counts .accesses) i)) (length l)
+    struct (p .budget) (over (p .over) i) (back (numbered (p .number)) i) (p .steps) (counts (halves (p .counts .accesses) i) (halves (p .counts .clipped) i)) (length l)
     (four 0 1 2 3 i ++ four 4 5 6 7 i ++ four 8 9 10 11 i)
   where
     over : (o : Bool) → not (eqb (cond o 1 0) 0) ≡ o

@@ -27,13 +27,13 @@ use Rattle.parts.specs.inner.Feed.{roomOf}
 
 module _ (len i : ℕ) (at : i % 12 ≡ 0) (l : i < len / 12 * 12) where
   -- at least one triple, whole ones, no more than the buffer holds, and none behind the last
-  pub room-fits : (n : ℕ) → n ≡ roomOf (len / 12 * 12 - i) → (0 < n) × (n ≤ 384) × (n % 3 ≡ 0) × (i + n * 4 ≤ len / 12 * 12)
-  room-fits n q = rw q (go (ltb (len / 12 * 12 - i) 1536) refl)
+  pub room-fits : (n : ℕ) → n ≡ roomOf (len / 12 * 12 - i) → (0 < n) × (n ≤ 480) × (n % 3 ≡ 0) × (i + n * 4 ≤ len / 12 * 12)
+  room-fits n q = rw q (go (ltb (len / 12 * 12 - i) 1920) refl)
     where
-      go : (t : Bool) → ltb (len / 12 * 12 - i) 1536 ≡ t
-          → let n = cond t ((len / 12 * 12 - i) / 4) 384 in (0 < n) × (n ≤ 384) × (n % 3 ≡ 0) × (i + n * 4 ≤ len / 12 * 12)
-      go true e = let h = ltb-true (len / 12 * 12 - i) 1536 e in (omega arith, omega arith, omega arith, omega arith)
-      go false e = let h = ltb-false (len / 12 * 12 - i) 1536 e in (omega arith, omega arith, omega arith, omega arith)
+      go : (t : Bool) → ltb (len / 12 * 12 - i) 1920 ≡ t
+          → let n = cond t ((len / 12 * 12 - i) / 4) 480 in (0 < n) × (n ≤ 480) × (n % 3 ≡ 0) × (i + n * 4 ≤ len / 12 * 12)
+      go true e = let h = ltb-true (len / 12 * 12 - i) 1920 e in (omega arith, omega arith, omega arith, omega arith)
+      go false e = let h = ltb-false (len / 12 * 12 - i) 1920 e in (omega arith, omega arith, omega arith, omega arith)
 
 -- ---- a run that has stopped, one that has no more to do
 

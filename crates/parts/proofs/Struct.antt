@@ -14,8 +14,7 @@ use Rattle.terms.specs.declared.Counts.{Counts}
 use Rattle.terms.specs.declared.End.{End}
 use Rattle.terms.specs.declared.End.the-variants as E
 use Rattle.terms.proofs.Inverse.{back}
-use Rattle.terms.proofs.Sums.{within-none, within-if}
-use Rattle.pieces.proofs.Right.{and-true}
+use Rattle.terms.proofs.Sums.{within-none, within-if, and-true}
 use Rattle.machine.specs.declared.Ran.{Ran}
 use Rattle.model.specs.Parts.{Parts, parts, begun, kept, endOf}
 use Rattle.parts.specs.Run.{answerOf, sound, meantBy, twelve, structOf}

@@ -15,21 +15,21 @@ use Rattle.parts.specs.Run.{Handed, handed, meantBy, structOf}
 use Rattle.parts.specs.declared.Run.{Run}
 
 -- the words of a struct: the budget; 1 where it is over, else 0; the answer's number; the steps; the accesses, low half first; how many bytes are left over, and
--- these, low byte first; then words that are 0
+-- these, low byte first; the clipped components, low half first; then words that are 0
 unfoldable pub worded : Run → List ℕ
 worded r =
     (r .budget ∷ cond (r .over) 1 0 ∷ number (r .end) ∷ r .steps ∷ r .counts .accesses % 4294967296 ∷ r .counts .accesses / 4294967296 ∷ r .count ∷ [])
     ++ firstWords 3 (r .held)
-    ++ (0 ∷ 0 ∷ 0 ∷ 0 ∷ 0 ∷ 0 ∷ [])
+    ++ (r .counts .clipped % 4294967296 ∷ r .counts .clipped / 4294967296 ∷ 0 ∷ 0 ∷ 0 ∷ 0 ∷ [])
 
--- the struct of sixteen words: it is over where the second is not 0; the last six do not matter
+-- the struct of sixteen words: it is over where the second is not 0; the last four do not matter
 unfoldable pub unworded : List ℕ → Run
 unworded ws = record {
   budget = getD ws 0 0;
   over = not (eqb (getD ws 1 0) 0);
   end = numbered (getD ws 2 0);
   steps = getD ws 3 0;
-  counts = counts (getD ws 4 0 + getD ws 5 0 * 4294967296);
+  counts = counts (getD ws 4 0 + getD ws 5 0 * 4294967296) (getD ws 10 0 + getD ws 11 0 * 4294967296);
   count = getD ws 6 0;
   held = split (getD ws 7 0) ++ split (getD ws 8 0) ++ split (getD ws 9 0);
 }

@@ -23,8 +23,8 @@ fn word(bytes: &[u8], at: usize) -> u32
 }
 
 // The n words of the bytes from `at` on, to the beginning of a buffer. (Of an array behind a reference the proof does not know the length by itself.)
-pub fn fill(words: &mut [u32; 384], bytes: &[u8], at: usize, n: usize)
-    requires { ⌜ (length (now words) ≡ 384) × (n ≤ 384) × (at + n * 4 ≤ length (now bytes)) ⌝ }
+pub fn fill(words: &mut [u32; 480], bytes: &[u8], at: usize, n: usize)
+    requires { ⌜ (length (now words) ≡ 480) × (n ≤ 480) × (at + n * 4 ≤ length (now bytes)) ⌝ }
     ensures { λ _. ⌜ now (words .exit) ≡ firstWords n (drop at (now (bytes .entry))) ++ drop n (now (words .entry)) ⌝ }
 {
     for k in 0..n {

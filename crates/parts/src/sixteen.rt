@@ -51,6 +51,7 @@ pub fn load(words: &[u32]) -> Run
 {
     let counts = Counts {
         accesses: wide(words[4], words[5]),
+        clipped: wide(words[10], words[11]),
     };
     Run {
         budget: words[0],
@@ -71,6 +72,7 @@ fn words(x: Run) -> [u32; 16]
     let h = x.held;
     let held = triple(h);
     let accesses = x.counts.accesses;
+    let clipped = x.counts.clipped;
     [
         x.budget,
         bit(x.over),
@@ -82,8 +84,8 @@ fn words(x: Run) -> [u32; 16]
         held[0],
         held[1],
         held[2],
-        0,
-        0,
+        (clipped % 4294967296) as u32,
+        (clipped / 4294967296) as u32,
         0,
         0,
         0,

@@ -61,11 +61,11 @@ pub fn one(
     added(from, x)
 }
 
-// How many words the buffer takes next, of so many bytes that are whole triples: it holds 384 words, which are 128 triples and 1,536 bytes.
+// How many words the buffer takes next, of so many bytes that are whole triples: it holds 480 words, which are 160 triples and 1,920 bytes.
 fn room(count: usize) -> usize
     ensures { λ r. ⌜ r ≡ roomOf count ⌝ }
 {
-    if count < 1536 { count / 4 } else { 384 }
+    if count < 1920 { count / 4 } else { 480 }
 }
 
 // The whole triples of the bytes, from where a run stands, if it has not stopped.
@@ -85,7 +85,7 @@ pub fn stream(
         ≡ onward budget (triples (wordsOf (now (bytes .entry)))) (runOutcome from (pieces (ds .entry) (a .entry) (r .entry) (c .entry) (vc .entry) (v .entry))) ⌝ }
 {
     let whole = bytes.len() / 12 * 12;
-    let mut words = [0u32; 384];
+    let mut words = [0u32; 480];
     let mut ran = from;
     let mut i: usize = 0;
     while i < whole {

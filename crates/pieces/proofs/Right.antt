@@ -1,20 +1,17 @@
 -- The right lengths and their test.
 use mathlib.Core.Path.{_≡_, refl, ap}
-use mathlib.Core.Bool.{Bool, true, false, cond, _&&_}
+use mathlib.Core.Bool.{Bool, true, false, cond}
 use Prim.Native.Nat.{ℕ}
 use native.Mathlib.Omega.{arith}
 use borrow.Author.Tests.{eqb-true}
 use lib.Dec.{eqb}
 use lib.ListN.{length}
+use Rattle.terms.proofs.Sums.{and-true}
 use Rattle.pieces.specs.State.{State, Sized, sizedOf, lengths}
 
 -- the two truth values differ
 pub clash : false ≡ true → ⊥
 clash e = let z : _≡_ {A = ℕ} 0 1 = ap (λ (x : Bool). cond x 1 0) e in omega arith
-
-pub and-true : (a b : Bool) → a && b ≡ true → (a ≡ true) × (b ≡ true)
-and-true true b e = (refl, e)
-and-true false b e = absurd (clash e)
 
 -- what passes the test has the right lengths
 pub sized-if : (s : State) → sizedOf s ≡ true → Sized s

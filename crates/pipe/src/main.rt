@@ -16,7 +16,7 @@ fn run(budget: u32) -> u32 {
     let run = parts::end(fed.run);
     let end = run.end;
     let answer = terms::number(end);
-    total::lines(answer, run.steps, run.counts.accesses);
+    total::lines(answer, run.steps, run.counts);
     total::status(answer)
 }
 

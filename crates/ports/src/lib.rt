@@ -1,15 +1,14 @@
-// What the vector unit's instructions share: where a second source and vcmpad's input bits come from, and where a result and its flags go.
+// What the vector unit's instructions share: where a second source and vcmpad's input bits come from, where a result and its flags go, and what it counts.
 ghost use mathlib.Core.Path.{_≡_};
 ghost use Prim.Native.Nat.{_<_};
 ghost use lib.ListN.{length};
 ghost use Rattle.lanes.specs.inner.Unpacked.{zerosOf, topsOf, packs};
 ghost use Rattle.pieces.specs.inner.Regs.{flagsAt};
-ghost use Rattle.terms.specs.Counts.{none};
 ghost use Rattle.words.specs.Fields as F;
 ghost use Rattle.words.specs.inner.Meant.{secondBy};
 ghost use Rattle.ports.specs.inner.Ports.{vectors, secondOf, inputOf, lanesAt, result};
 use lanes::Unpacked;
-use terms::Counts;
+use terms::Counted;
 
 // Source 2, as one value: BIMM in each component, or the register SRC2.
 pub fn second_of(word: u32, v: &[u8]) -> [u8; 16]
@@ -47,14 +46,32 @@ fn pack(tested: [u8; 16], tops: [u8; 16], vcdst: usize, vc: &mut [u32])
 }
 
 // A result to $v[DST], its flags to $vc[VCDST].
-pub fn put(m: Unpacked, dst: usize, vcdst: usize, vc: &mut [u32], v: &mut [u8]) -> Counts
+fn write(m: Unpacked, dst: usize, vcdst: usize, vc: &mut [u32], v: &mut [u8])
     requires { ⌜ (length (now vc) ≡ 4) × (length (now v) ≡ 512) × (dst < 32) ⌝ }
-    ensures { λ n. ⌜ result n (vectors (now (vc .exit)) (now (v .exit))) ≡ result none (lanesAt dst vcdst (packs m) (vectors (now (vc .entry)) (now (v .entry)))) ⌝ }
+    ensures { λ _. ⌜ vectors (now (vc .exit)) (now (v .exit)) ≡ lanesAt dst vcdst (packs m) (vectors (now (vc .entry)) (now (v .entry))) ⌝ }
 {
     let bytes = m.bytes;
     let tested = m.tested;
     let tops = m.tops;
     pieces::set_vreg(v, dst, bytes);
     pack(tested, tops, vcdst, vc);
-    terms::no_counts()
+}
+
+// The result of an instruction that counts nothing.
+pub fn put(m: Unpacked, dst: usize, vcdst: usize, vc: &mut [u32], v: &mut [u8]) -> Counted
+    requires { ⌜ (length (now vc) ≡ 4) × (length (now v) ≡ 512) × (dst < 32) ⌝ }
+    ensures { λ n. ⌜ result n (vectors (now (vc .exit)) (now (v .exit))) ≡ result Counted.Nothing (lanesAt dst vcdst (packs m) (vectors (now (vc .entry)) (now (v .entry)))) ⌝ }
+{
+    write(m, dst, vcdst, vc, v);
+    Counted::Nothing
+}
+
+// The result of one that counts the components that were clipped.
+pub fn put_clipped(m: Unpacked, dst: usize, vcdst: usize, vc: &mut [u32], v: &mut [u8]) -> Counted
+    requires { ⌜ (length (now vc) ≡ 4) × (length (now v) ≡ 512) × (dst < 32) ⌝ }
+    ensures { λ n. ⌜ result n (vectors (now (vc .exit)) (now (v .exit))) ≡ result (Counted.Clipped (packs m .clipped)) (lanesAt dst vcdst (packs m) (vectors (now (vc .entry)) (now (v .entry)))) ⌝ }
+{
+    let clipped = m.clipped;
+    write(m, dst, vcdst, vc, v);
+    Counted::Clipped(clipped as u64)
 }

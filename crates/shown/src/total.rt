@@ -1,12 +1,14 @@
 // How a run ended: its lines of the last part, and the status that a program has for it.
 use crate::figures;
 use crate::phrases;
+use terms::Counts;
 
-// The answer, the steps done, and their cell accesses.
-pub fn lines(answer: u32, steps: u32, cells: u64) {
+// The answer, the steps done, and what they count: their cell accesses, and their clipped components.
+pub fn lines(answer: u32, steps: u32, counts: Counts) {
     phrases::answer(answer);
     figures::line(b"steps ", steps as u64);
-    figures::line(b"cells ", cells);
+    figures::line(b"cells ", counts.accesses);
+    figures::line(b"clipped ", counts.clipped);
 }
 
 // The status of an answer.

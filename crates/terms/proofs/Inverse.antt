@@ -1,13 +1,10 @@
 -- The numbers tell the answers apart.
-use mathlib.Core.Path.{_≡_, refl, sym, ap, ap₂, _∙_}
+use mathlib.Core.Path.{_≡_, refl, sym, ap, _∙_}
 use Prim.Native.Nat.{ℕ, zero, suc, _<_}
 use native.Mathlib.Omega.{arith}
 use Rattle.terms.specs.Answers.{number, numbered}
-use Rattle.terms.specs.inner.Runs.{endOf, countsIn}
+use Rattle.terms.specs.declared.Refusal.{Refusal}
 use Rattle.terms.specs.declared.Refusal.the-variants as R
-use Rattle.terms.specs.declared.Counts.{Counts}
-use Rattle.terms.specs.declared.Answer.{Answer}
-use Rattle.terms.specs.declared.Answer.the-variants as A
 use Rattle.terms.specs.declared.End.{End}
 use Rattle.terms.specs.declared.End.the-variants as E
 
@@ -45,23 +42,19 @@ number-back (suc (suc (suc (suc (suc (suc (suc (suc (suc (suc zero)))))))))) h =
 number-back (suc (suc (suc (suc (suc (suc (suc (suc (suc (suc (suc zero))))))))))) h = refl
 number-back (suc (suc (suc (suc (suc (suc (suc (suc (suc (suc (suc (suc n)))))))))))) h = absurd (omega arith)
 
-answered : End → Counts → Answer
-answered E.Done c = A.Done c
-answered (E.Refused k) c = A.Refused k
-answered E.Lengths c = A.Done c
-answered E.Ragged c = A.Done c
-answered E.Spent c = A.Done c
-answered E.Unnamed c = A.Done c
-answered E.Amiss c = A.Done c
-answered E.Unended c = A.Done c
-answered E.Short c = A.Done c
+-- an end's refusal, or d
+which : Refusal → End → Refusal
+which d E.Done = d
+which d (E.Refused k) = k
+which d E.Lengths = d
+which d E.Ragged = d
+which d E.Spent = d
+which d E.Unnamed = d
+which d E.Amiss = d
+which d E.Unended = d
+which d E.Short = d
 
-answer-back : (x : Answer) → answered (endOf x) (countsIn x) ≡ x
-unfolding answered
-answer-back (A.Done c) = refl
-answer-back (A.Refused k) = refl
-
--- a number and what is counted tell a triple's answers apart
-pub answer-inj : (x y : Answer) → number (endOf x) ≡ number (endOf y) → countsIn x ≡ countsIn y → x ≡ y
-answer-inj x y e f =
-    sym (answer-back x) ∙ ap₂ answered (number-inj (endOf x) (endOf y) e) f ∙ answer-back y
+-- they tell the refusals apart
+pub refused-inj : (j k : Refusal) → number (E.Refused j) ≡ number (E.Refused k) → j ≡ k
+unfolding which
+refused-inj j k e = ap (which j) (number-inj (E.Refused j) (E.Refused k) e)

@@ -1,8 +1,8 @@
-// The terms that every layer speaks in: the way of an access, a half of a word, why a call stopped and its number, what a step counts.
+// The terms that every layer speaks in: the way of an access, a half of a word, why a call stopped and its number, what a step and a run count.
 ghost use mathlib.Core.Path.{_≡_};
 ghost use Rattle.terms.specs.Answers.{number, numbered};
-ghost use Rattle.terms.specs.inner.Runs.{endOf, most};
-ghost use Rattle.terms.specs.Counts.{none, entering, plus, Within, withinOf};
+ghost use Rattle.terms.specs.inner.Runs.{endOf, amount, most};
+ghost use Rattle.terms.specs.Counts.{none, plus, Within, withinOf};
 
 // How an access goes: along a row, down a column, or over the four bytes of a word.
 pub enum Way {
@@ -38,14 +38,22 @@ pub enum End {
     Short,
 }
 
-// What a step reports besides the state, and a run in total.
+// What a call reports besides the state: the cells that its accesses entered, and the components whose true result lay outside the clip range.
 pub struct Counts {
     pub accesses: u64,
+    pub clipped: u64,
+}
+
+// What one step counts. No step counts both, and a step pays for no total that it does not add to.
+pub enum Counted {
+    Nothing,
+    Cells(u64),
+    Clipped(u64),
 }
 
 // One triple's answer, on pieces of right lengths.
 pub enum Answer {
-    Done(Counts),
+    Done(Counted),
     Refused(Refusal),
 }
 
@@ -110,23 +118,38 @@ pub fn end_of(x: Answer) -> End
 pub fn no_counts() -> Counts
     ensures { λ c. ⌜ c ≡ none ⌝ }
 {
-    Counts { accesses: 0 }
+    Counts {
+        accesses: 0,
+        clipped: 0,
+    }
 }
 
-// What an access counts.
-pub fn entering(cells: u64) -> Counts
-    ensures { λ c. ⌜ c ≡ entering cells ⌝ }
+// The total with a step more.
+pub fn more(total: Counts, n: Counted) -> Counts
+    requires { ⌜ Within most (plus total (amount n)) ⌝ }
+    ensures { λ c. ⌜ c ≡ plus total (amount n) ⌝ }
 {
-    Counts { accesses: cells }
+    match n {
+        Counted::Nothing => total,
+        Counted::Cells(k) => Counts {
+            accesses: total.accesses + k,
+            clipped: total.clipped,
+        },
+        Counted::Clipped(k) => Counts {
+            accesses: total.accesses,
+            clipped: total.clipped + k,
+        },
+    }
 }
 
-// The sum of two steps' counts, or of two runs' that together have fewer steps than a budget can ask for.
+// The sum of two runs' counts that together have fewer steps than a budget can ask for.
 pub fn sum(x: Counts, y: Counts) -> Counts
     requires { ⌜ Within most (plus x y) ⌝ }
     ensures { λ c. ⌜ c ≡ plus x y ⌝ }
 {
     Counts {
         accesses: x.accesses + y.accesses,
+        clipped: x.clipped + y.clipped,
     }
 }
 
@@ -134,5 +157,6 @@ pub fn sum(x: Counts, y: Counts) -> Counts
 pub fn within(n: u32, c: Counts) -> bool
     ensures { λ r. ⌜ r ≡ withinOf n c ⌝ }
 {
-    c.accesses <= n as u64 * 16
+    let most = n as u64 * 16;
+    (c.accesses <= most) & (c.clipped <= most)
 }

@@ -5,9 +5,8 @@ use contract.Lifetimes.{Lfts}
 use denote.Triple.Clauses.{AtExit}
 use denote.Triple.Entry.{Args}
 use Rattle.terms.specs.declared.Answer.{Answer}
-use Rattle.terms.proofs.Inverse.{answer-inj}
 use Rattle.pieces.specs.State.{State, pieces}
-use Rattle.model.specs.Step.{Outcome}
+use Rattle.units.specs.inner.Answers.{Answered}
 use Rattle.units.proofs.triple as T
 use Rattle.units.proofs.triple.Reads as TR
 
@@ -20,7 +19,4 @@ after κs e =
 pub one-triple : (κs : Lfts 6) (args : Args T.signature κs) (x y : Answer) (e f : AtExit T.ended κs) → TR.Post κs args x e → TR.Post κs args y f
     → (x ≡ y) × (after κs e ≡ after κs f)
 one-triple κs args x y e f h k =
-    let q = h ∙ sym k in (
-      answer-inj x y (ap (λ (o : Outcome). o .number) q) (ap (λ (o : Outcome). o .counts) q),
-      ap (λ (o : Outcome). o .after) q,
-    )
+    let q = h ∙ sym k in (ap (λ (a : Answered). a .answer) q, ap (λ (a : Answered). a .after) q)

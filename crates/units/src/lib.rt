@@ -1,9 +1,9 @@
 // The two units as one, on the six lent pieces: one triple, from its word to what it leaves.
 ghost use mathlib.Core.Path.{_≡_};
 ghost use Rattle.pieces.specs.State.{pieces, Sized};
-ghost use Rattle.model.specs.Step.{tripleOf};
-ghost use Rattle.units.specs.inner.Answers.{answerOutcome, refusedOf};
+ghost use Rattle.units.specs.inner.Answers.{answered, answeredOf, refusedOf};
 use terms::Answer;
+use terms::Counted;
 use terms::Refusal;
 use words::Decoded;
 use words::Insn;
@@ -31,8 +31,8 @@ pub fn triple(
     v: &mut [u8],
 ) -> Answer
     requires { ⌜ Sized (pieces ds a r c vc v) ⌝ }
-    ensures { λ x. ⌜ answerOutcome x (pieces (ds .exit) (a .exit) (r .exit) (c .exit) (vc .exit) (v .exit))
-        ≡ tripleOf word side mask (pieces (ds .entry) (a .entry) (r .entry) (c .entry) (vc .entry) (v .entry)) ⌝ }
+    ensures { λ x. ⌜ answered x (pieces (ds .exit) (a .exit) (r .exit) (c .exit) (vc .exit) (v .exit))
+        ≡ answeredOf word side mask (pieces (ds .entry) (a .entry) (r .entry) (c .entry) (vc .entry) (v .entry)) ⌝ }
 {
     let d = words::decode(word, side, mask);
     let Decoded::Insn(i) = d else {
@@ -64,7 +64,7 @@ pub fn triple(
         Insn::Vor(w) => Answer::Done(vector::vor(w, vc, v)),
         Insn::Mov(w) => Answer::Done(vector::mov(w, vc, v)),
         Insn::MovVc(w) => Answer::Done(vector::mov_vc(w, vc, v)),
-        Insn::Nop => Answer::Done(terms::no_counts()),
+        Insn::Nop => Answer::Done(Counted::Nothing),
         Insn::Ldavh(o) => Answer::Done(address::ldavh(o, ds, a, c, v)),
         Insn::Ldavv(o) => Answer::Done(address::ldavv(o, ds, a, c, v)),
         Insn::Ldas(o) => Answer::Done(address::ldas(o, ds, a, c, r)),

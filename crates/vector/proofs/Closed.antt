@@ -1,4 +1,4 @@
--- What a vector instruction of the model comes to, piece by piece: `vectored` on $vc and $v, nothing on the others, and no cell accesses.
+-- What a vector instruction of the model comes to, piece by piece: `vectored` on $vc and $v, nothing on the others, and what it counts.
 use mathlib.Core.Path.{_≡_, refl, ap}
 use Prim.Native.Nat.{ℕ, zero, suc, _+_, _*_, _/_, _%_}
 use native.Mathlib.Omega.{arith}
@@ -6,7 +6,8 @@ use mathlib.Core.Bool.{Bool, true, false, cond}
 use mathlib.Core.List.{List, [], _∷_}
 use lib.Dec.{ltb}
 use lib.ListN.{set}
-use Rattle.lanes.specs.Lanes.{Lanes}
+use Rattle.lane.specs.Lane.{tells}
+use Rattle.lanes.specs.Lanes.{Lanes, arithLanes}
 use Rattle.pieces.specs.inner.Regs.{vregOf, withVreg, flagsAt}
 use Rattle.words.specs.Insn as N
 use Rattle.words.specs.Second.{Second}
@@ -20,10 +21,14 @@ use Rattle.terms.specs.declared.Half.the-variants.{Low, High}
 use Rattle.pieces.specs.Place.{xlat, halves, edit, upd, signs, zeros}
 use Rattle.model.specs.Prog.{Did, Done, ret, run, _>>=_, _≔_, puts, done}
 use Rattle.model.specs.Vector.{flagsTo, lanesTo, second, input}
-use Rattle.terms.specs.Counts.{none}
+use Rattle.terms.specs.Counts.{counts, none}
+use Rattle.terms.specs.inner.Runs.{amount}
+use Rattle.terms.specs.declared.Counted.the-variants.{Nothing, Clipped}
 use Rattle.model.specs.Step.{stepped, counted}
+use Rattle.model.proofs.Cells.{accesses-are}
+use Rattle.model.proofs.Clipped.{telling, clipped-none}
 use Rattle.ports.specs.inner.Ports.{vectors, secondOf, inputOf, lanesAt}
-use Rattle.vector.specs.inner.Effect.{vectored}
+use Rattle.vector.specs.inner.Effect.{vectored, countedOf}
 
 -- two halves put are one word set, two halves read are one word
 halves-put : (n sf zf : ℕ) (l : List ℕ) → upd n (edit halves High zf) (upd n (edit halves Low sf) l) ≡ set l n (zf * 65536 + sf % 65536)
@@ -81,17 +86,28 @@ closed (Mov o) s = lanes-put _ _ _ s
 closed (MovImm o) s = lanes-put _ _ _ s
 closed (MovFlags dst) s = simp halves-read
 
-pub uncounted : (i : Vector) (s : State) → counted (N.Vector i) s ≡ none
-unfolding counted
-uncounted (Arith o) s = ap (λ (d : Done). d .counts) (second-run (o .second) _ s)
-uncounted (Shift o) s = ap (λ (d : Done). d .counts) (second-run (o .second) _ s)
-uncounted (Clip o) s = refl
-uncounted (Add9 o) s = refl
-uncounted (MinAbs o) s = refl
-uncounted (Bitop o) s = refl
-uncounted (Logic o) s = refl
-uncounted (Cmpad o) s = ap (λ (d : Done). d .counts) (input-run (o .vcdst) (o .input) _ s)
-uncounted (Swz o) s = refl
-uncounted (Mov o) s = refl
-uncounted (MovImm o) s = refl
-uncounted (MovFlags dst) s = refl
+-- an instruction that does not tell counts nothing
+silent : (i : Vector) (s : State) → telling (N.Vector i) ≡ false → counted (N.Vector i) s ≡ none
+silent i s e = λ k. counts (accesses-are (N.Vector i) s k) (clipped-none (N.Vector i) s e k)
+
+pub counting : (i : Vector) (s : State) → counted (N.Vector i) s ≡ amount (countedOf i (vectors (s .vc) (s .v)))
+unfolding counted countedOf vregOf
+counting (Arith o) s = go (tells (o .calc)) refl
+  where
+    n : ℕ
+    n = arithLanes (o .calc) (o .signed) (vregOf (s .v) (o .src1)) (secondOf (o .second) (s .v)) .clipped
+
+    go : (t : Bool) → tells (o .calc) ≡ t → counted (N.Vector (Arith o)) s ≡ amount (cond t (Clipped n) Nothing)
+    go true e = ap (λ (d : Done). d .counts) (second-run (o .second) _ s)
+    go false e = silent (Arith o) s e
+counting (Shift o) s = silent (Shift o) s refl
+counting (Clip o) s = silent (Clip o) s refl
+counting (Add9 o) s = refl
+counting (MinAbs o) s = silent (MinAbs o) s refl
+counting (Bitop o) s = silent (Bitop o) s refl
+counting (Logic o) s = silent (Logic o) s refl
+counting (Cmpad o) s = silent (Cmpad o) s refl
+counting (Swz o) s = silent (Swz o) s refl
+counting (Mov o) s = silent (Mov o) s refl
+counting (MovImm o) s = silent (MovImm o) s refl
+counting (MovFlags dst) s = silent (MovFlags dst) s refl

@@ -13,10 +13,10 @@ ghost use Rattle.words.specs.Table.{arithOf, shiftOf, clipOf, add9Of, minAbsOf,
 ghost use Rattle.words.specs.Second.{Register, Absent};
 ghost use Rattle.ports.specs.inner.Ports.{vectors, result};
 ghost use Rattle.vector.specs.inner.Effect.{vectored, resultOf};
-use terms::Counts;
+use terms::Counted;
 use words::Fields;
 
-pub fn vmin_s(word: u32, vc: &mut [u32], v: &mut [u8]) -> Counts
+pub fn vmin_s(word: u32, vc: &mut [u32], v: &mut [u8]) -> Counted
     requires { ⌜ (length (now vc) ≡ 4) × (length (now v) ≡ 512) ⌝ }
     ensures { λ n. ⌜ result n (vectors (now (vc .exit)) (now (v .exit))) ≡ resultOf (arithOf (fieldsOf word) Min true (secondBy word)) (vectors (now (vc .entry)) (now (v .entry))) ⌝ }
 {
@@ -26,7 +26,7 @@ pub fn vmin_s(word: u32, vc: &mut [u32], v: &mut [u8]) -> Counts
     ports::put(loops::arithmetic::vmin_s(a, b), f.dst, f.flags, vc, v)
 }
 
-pub fn vmax_s(word: u32, vc: &mut [u32], v: &mut [u8]) -> Counts
+pub fn vmax_s(word: u32, vc: &mut [u32], v: &mut [u8]) -> Counted
     requires { ⌜ (length (now vc) ≡ 4) × (length (now v) ≡ 512) ⌝ }
     ensures { λ n. ⌜ result n (vectors (now (vc .exit)) (now (v .exit))) ≡ resultOf (arithOf (fieldsOf word) Max true (secondBy word)) (vectors (now (vc .entry)) (now (v .entry))) ⌝ }
 {
@@ -36,27 +36,27 @@ pub fn vmax_s(word: u32, vc: &mut [u32], v: &mut [u8]) -> Counts
     ports::put(loops::arithmetic::vmax_s(a, b), f.dst, f.flags, vc, v)
 }
 
-pub fn vadd_s(word: u32, vc: &mut [u32], v: &mut [u8]) -> Counts
+pub fn vadd_s(word: u32, vc: &mut [u32], v: &mut [u8]) -> Counted
     requires { ⌜ (length (now vc) ≡ 4) × (length (now v) ≡ 512) ⌝ }
     ensures { λ n. ⌜ result n (vectors (now (vc .exit)) (now (v .exit))) ≡ resultOf (arithOf (fieldsOf word) Add true (secondBy word)) (vectors (now (vc .entry)) (now (v .entry))) ⌝ }
 {
     let f = words::cut(word);
     let a = pieces::vreg(v, f.src1);
     let b = ports::second_of(word, v);
-    ports::put(loops::arithmetic::vadd_s(a, b), f.dst, f.flags, vc, v)
+    ports::put_clipped(loops::arithmetic::vadd_s(a, b), f.dst, f.flags, vc, v)
 }
 
-pub fn vsub_s(word: u32, vc: &mut [u32], v: &mut [u8]) -> Counts
+pub fn vsub_s(word: u32, vc: &mut [u32], v: &mut [u8]) -> Counted
     requires { ⌜ (length (now vc) ≡ 4) × (length (now v) ≡ 512) ⌝ }
     ensures { λ n. ⌜ result n (vectors (now (vc .exit)) (now (v .exit))) ≡ resultOf (arithOf (fieldsOf word) Sub true (Register (fieldsOf word .src2))) (vectors (now (vc .entry)) (now (v .entry))) ⌝ }
 {
     let f = words::cut(word);
     let a = pieces::vreg(v, f.src1);
     let b = pieces::vreg(v, f.src2);
-    ports::put(loops::arithmetic::vsub_s(a, b), f.dst, f.flags, vc, v)
+    ports::put_clipped(loops::arithmetic::vsub_s(a, b), f.dst, f.flags, vc, v)
 }
 
-pub fn vmin_u(word: u32, vc: &mut [u32], v: &mut [u8]) -> Counts
+pub fn vmin_u(word: u32, vc: &mut [u32], v: &mut [u8]) -> Counted
     requires { ⌜ (length (now vc) ≡ 4) × (length (now v) ≡ 512) ⌝ }
     ensures { λ n. ⌜ result n (vectors (now (vc .exit)) (now (v .exit))) ≡ resultOf (arithOf (fieldsOf word) Min false (secondBy word)) (vectors (now (vc .entry)) (now (v .entry))) ⌝ }
 {
@@ -66,7 +66,7 @@ pub fn vmin_u(word: u32, vc: &mut [u32], v: &mut [u8]) -> Counts
     ports::put(loops::arithmetic::vmin_u(a, b), f.dst, f.flags, vc, v)
 }
 
-pub fn vmax_u(word: u32, vc: &mut [u32], v: &mut [u8]) -> Counts
+pub fn vmax_u(word: u32, vc: &mut [u32], v: &mut [u8]) -> Counted
     requires { ⌜ (length (now vc) ≡ 4) × (length (now v) ≡ 512) ⌝ }
     ensures { λ n. ⌜ result n (vectors (now (vc .exit)) (now (v .exit))) ≡ resultOf (arithOf (fieldsOf word) Max false (secondBy word)) (vectors (now (vc .entry)) (now (v .entry))) ⌝ }
 {
@@ -76,54 +76,54 @@ pub fn vmax_u(word: u32, vc: &mut [u32], v: &mut [u8]) -> Counts
     ports::put(loops::arithmetic::vmax_u(a, b), f.dst, f.flags, vc, v)
 }
 
-pub fn vadd_u(word: u32, vc: &mut [u32], v: &mut [u8]) -> Counts
+pub fn vadd_u(word: u32, vc: &mut [u32], v: &mut [u8]) -> Counted
     requires { ⌜ (length (now vc) ≡ 4) × (length (now v) ≡ 512) ⌝ }
     ensures { λ n. ⌜ result n (vectors (now (vc .exit)) (now (v .exit))) ≡ resultOf (arithOf (fieldsOf word) Add false (secondBy word)) (vectors (now (vc .entry)) (now (v .entry))) ⌝ }
 {
     let f = words::cut(word);
     let a = pieces::vreg(v, f.src1);
     let b = ports::second_of(word, v);
-    ports::put(loops::arithmetic::vadd_u(a, b), f.dst, f.flags, vc, v)
+    ports::put_clipped(loops::arithmetic::vadd_u(a, b), f.dst, f.flags, vc, v)
 }
 
-pub fn vsub_u(word: u32, vc: &mut [u32], v: &mut [u8]) -> Counts
+pub fn vsub_u(word: u32, vc: &mut [u32], v: &mut [u8]) -> Counted
     requires { ⌜ (length (now vc) ≡ 4) × (length (now v) ≡ 512) ⌝ }
     ensures { λ n. ⌜ result n (vectors (now (vc .exit)) (now (v .exit))) ≡ resultOf (arithOf (fieldsOf word) Sub false (secondBy word)) (vectors (now (vc .entry)) (now (v .entry))) ⌝ }
 {
     let f = words::cut(word);
     let a = pieces::vreg(v, f.src1);
     let b = ports::second_of(word, v);
-    ports::put(loops::arithmetic::vsub_u(a, b), f.dst, f.flags, vc, v)
+    ports::put_clipped(loops::arithmetic::vsub_u(a, b), f.dst, f.flags, vc, v)
 }
 
-pub fn vabs_s(word: u32, vc: &mut [u32], v: &mut [u8]) -> Counts
+pub fn vabs_s(word: u32, vc: &mut [u32], v: &mut [u8]) -> Counted
     requires { ⌜ (length (now vc) ≡ 4) × (length (now v) ≡ 512) ⌝ }
     ensures { λ n. ⌜ result n (vectors (now (vc .exit)) (now (v .exit))) ≡ resultOf (arithOf (fieldsOf word) Abs true Absent) (vectors (now (vc .entry)) (now (v .entry))) ⌝ }
 {
     let f = words::cut(word);
     let a = pieces::vreg(v, f.src1);
-    ports::put(loops::arithmetic::vabs_s(a), f.dst, f.flags, vc, v)
+    ports::put_clipped(loops::arithmetic::vabs_s(a), f.dst, f.flags, vc, v)
 }
 
-pub fn vneg_s(word: u32, vc: &mut [u32], v: &mut [u8]) -> Counts
+pub fn vneg_s(word: u32, vc: &mut [u32], v: &mut [u8]) -> Counted
     requires { ⌜ (length (now vc) ≡ 4) × (length (now v) ≡ 512) ⌝ }
     ensures { λ n. ⌜ result n (vectors (now (vc .exit)) (now (v .exit))) ≡ resultOf (arithOf (fieldsOf word) Neg true Absent) (vectors (now (vc .entry)) (now (v .entry))) ⌝ }
 {
     let f = words::cut(word);
     let a = pieces::vreg(v, f.src1);
-    ports::put(loops::arithmetic::vneg_s(a), f.dst, f.flags, vc, v)
+    ports::put_clipped(loops::arithmetic::vneg_s(a), f.dst, f.flags, vc, v)
 }
 
-pub fn vabs_u(word: u32, vc: &mut [u32], v: &mut [u8]) -> Counts
+pub fn vabs_u(word: u32, vc: &mut [u32], v: &mut [u8]) -> Counted
     requires { ⌜ (length (now vc) ≡ 4) × (length (now v) ≡ 512) ⌝ }
     ensures { λ n. ⌜ result n (vectors (now (vc .exit)) (now (v .exit))) ≡ resultOf (arithOf (fieldsOf word) Abs false Absent) (vectors (now (vc .entry)) (now (v .entry))) ⌝ }
 {
     let f = words::cut(word);
     let a = pieces::vreg(v, f.src1);
-    ports::put(loops::arithmetic::vabs_u(a), f.dst, f.flags, vc, v)
+    ports::put_clipped(loops::arithmetic::vabs_u(a), f.dst, f.flags, vc, v)
 }
 
-pub fn vsar(word: u32, vc: &mut [u32], v: &mut [u8]) -> Counts
+pub fn vsar(word: u32, vc: &mut [u32], v: &mut [u8]) -> Counted
     requires { ⌜ (length (now vc) ≡ 4) × (length (now v) ≡ 512) ⌝ }
     ensures { λ n. ⌜ result n (vectors (now (vc .exit)) (now (v .exit))) ≡ resultOf (shiftOf (fieldsOf word) true (secondBy word)) (vectors (now (vc .entry)) (now (v .entry))) ⌝ }
 {
@@ -133,7 +133,7 @@ pub fn vsar(word: u32, vc: &mut [u32], v: &mut [u8]) -> Counts
     ports::put(loops::shifts::vsar(a, b), f.dst, f.flags, vc, v)
 }
 
-pub fn vshr(word: u32, vc: &mut [u32], v: &mut [u8]) -> Counts
+pub fn vshr(word: u32, vc: &mut [u32], v: &mut [u8]) -> Counted
     requires { ⌜ (length (now vc) ≡ 4) × (length (now v) ≡ 512) ⌝ }
     ensures { λ n. ⌜ result n (vectors (now (vc .exit)) (now (v .exit))) ≡ resultOf (shiftOf (fieldsOf word) false (secondBy word)) (vectors (now (vc .entry)) (now (v .entry))) ⌝ }
 {
@@ -143,7 +143,7 @@ pub fn vshr(word: u32, vc: &mut [u32], v: &mut [u8]) -> Counts
     ports::put(loops::shifts::vshr(a, b), f.dst, f.flags, vc, v)
 }
 
-pub fn vclip(word: u32, vc: &mut [u32], v: &mut [u8]) -> Counts
+pub fn vclip(word: u32, vc: &mut [u32], v: &mut [u8]) -> Counted
     requires { ⌜ (length (now vc) ≡ 4) × (length (now v) ≡ 512) ⌝ }
     ensures { λ n. ⌜ result n (vectors (now (vc .exit)) (now (v .exit))) ≡ resultOf (clipOf (fieldsOf word)) (vectors (now (vc .entry)) (now (v .entry))) ⌝ }
 {
@@ -154,7 +154,7 @@ pub fn vclip(word: u32, vc: &mut [u32], v: &mut [u8]) -> Counts
     ports::put(loops::clamp::vclip(a, b, c), f.dst, f.flags, vc, v)
 }
 
-pub fn vadd9(word: u32, vc: &mut [u32], v: &mut [u8]) -> Counts
+pub fn vadd9(word: u32, vc: &mut [u32], v: &mut [u8]) -> Counted
     requires { ⌜ (length (now vc) ≡ 4) × (length (now v) ≡ 512) ⌝ }
     ensures { λ n. ⌜ result n (vectors (now (vc .exit)) (now (v .exit))) ≡ resultOf (add9Of (fieldsOf word)) (vectors (now (vc .entry)) (now (v .entry))) ⌝ }
 {
@@ -162,10 +162,10 @@ pub fn vadd9(word: u32, vc: &mut [u32], v: &mut [u8]) -> Counts
     let a = pieces::vreg(v, f.src1);
     let b = pieces::vreg(v, f.src2);
     let c = pieces::vreg(v, f.src3);
-    ports::put(loops::nine::vadd9(a, b, c), f.dst, f.flags, vc, v)
+    ports::put_clipped(loops::nine::vadd9(a, b, c), f.dst, f.flags, vc, v)
 }
 
-pub fn vminabs(word: u32, vc: &mut [u32], v: &mut [u8]) -> Counts
+pub fn vminabs(word: u32, vc: &mut [u32], v: &mut [u8]) -> Counted
     requires { ⌜ (length (now vc) ≡ 4) × (length (now v) ≡ 512) ⌝ }
     ensures { λ n. ⌜ result n (vectors (now (vc .exit)) (now (v .exit))) ≡ resultOf (minAbsOf (fieldsOf word)) (vectors (now (vc .entry)) (now (v .entry))) ⌝ }
 {
@@ -175,7 +175,7 @@ pub fn vminabs(word: u32, vc: &mut [u32], v: &mut [u8]) -> Counts
     ports::put(loops::clamp::vminabs(a, b), f.dst, f.flags, vc, v)
 }
 
-pub fn vbitop(word: u32, vc: &mut [u32], v: &mut [u8]) -> Counts
+pub fn vbitop(word: u32, vc: &mut [u32], v: &mut [u8]) -> Counted
     requires { ⌜ (length (now vc) ≡ 4) × (length (now v) ≡ 512) ⌝ }
     ensures { λ n. ⌜ result n (vectors (now (vc .exit)) (now (v .exit))) ≡ resultOf (vbitopOf (fieldsOf word)) (vectors (now (vc .entry)) (now (v .entry))) ⌝ }
 {
@@ -185,7 +185,7 @@ pub fn vbitop(word: u32, vc: &mut [u32], v: &mut [u8]) -> Counts
     ports::put(loops::bitwise::vbitop(f.bitop, a, b), f.dst, f.flags, vc, v)
 }
 
-pub fn vand(word: u32, vc: &mut [u32], v: &mut [u8]) -> Counts
+pub fn vand(word: u32, vc: &mut [u32], v: &mut [u8]) -> Counted
     requires { ⌜ (length (now vc) ≡ 4) × (length (now v) ≡ 512) ⌝ }
     ensures { λ n. ⌜ result n (vectors (now (vc .exit)) (now (v .exit))) ≡ resultOf (logicOf (fieldsOf word) And) (vectors (now (vc .entry)) (now (v .entry))) ⌝ }
 {
@@ -194,7 +194,7 @@ pub fn vand(word: u32, vc: &mut [u32], v: &mut [u8]) -> Counts
     ports::put(loops::bitwise::vand(a, f.byte), f.dst, f.flags, vc, v)
 }
 
-pub fn vxor(word: u32, vc: &mut [u32], v: &mut [u8]) -> Counts
+pub fn vxor(word: u32, vc: &mut [u32], v: &mut [u8]) -> Counted
     requires { ⌜ (length (now vc) ≡ 4) × (length (now v) ≡ 512) ⌝ }
     ensures { λ n. ⌜ result n (vectors (now (vc .exit)) (now (v .exit))) ≡ resultOf (logicOf (fieldsOf word) Xor) (vectors (now (vc .entry)) (now (v .entry))) ⌝ }
 {
@@ -203,7 +203,7 @@ pub fn vxor(word: u32, vc: &mut [u32], v: &mut [u8]) -> Counts
     ports::put(loops::bitwise::vxor(a, f.byte), f.dst, f.flags, vc, v)
 }
 
-pub fn vor(word: u32, vc: &mut [u32], v: &mut [u8]) -> Counts
+pub fn vor(word: u32, vc: &mut [u32], v: &mut [u8]) -> Counted
     requires { ⌜ (length (now vc) ≡ 4) × (length (now v) ≡ 512) ⌝ }
     ensures { λ n. ⌜ result n (vectors (now (vc .exit)) (now (v .exit))) ≡ resultOf (logicOf (fieldsOf word) Or) (vectors (now (vc .entry)) (now (v .entry))) ⌝ }
 {
@@ -212,7 +212,7 @@ pub fn vor(word: u32, vc: &mut [u32], v: &mut [u8]) -> Counts
     ports::put(loops::bitwise::vor(a, f.byte), f.dst, f.flags, vc, v)
 }
 
-pub fn mov(word: u32, vc: &mut [u32], v: &mut [u8]) -> Counts
+pub fn mov(word: u32, vc: &mut [u32], v: &mut [u8]) -> Counted
     requires { ⌜ (length (now vc) ≡ 4) × (length (now v) ≡ 512) ⌝ }
     ensures { λ n. ⌜ result n (vectors (now (vc .exit)) (now (v .exit))) ≡ resultOf (movOf (fieldsOf word)) (vectors (now (vc .entry)) (now (v .entry))) ⌝ }
 {
@@ -221,7 +221,7 @@ pub fn mov(word: u32, vc: &mut [u32], v: &mut [u8]) -> Counts
     ports::put(lanes::moves::mov(a), f.dst, f.flags, vc, v)
 }
 
-pub fn vmov(word: u32, vc: &mut [u32], v: &mut [u8]) -> Counts
+pub fn vmov(word: u32, vc: &mut [u32], v: &mut [u8]) -> Counted
     requires { ⌜ (length (now vc) ≡ 4) × (length (now v) ≡ 512) ⌝ }
     ensures { λ n. ⌜ result n (vectors (now (vc .exit)) (now (v .exit))) ≡ resultOf (movImmOf (fieldsOf word)) (vectors (now (vc .entry)) (now (v .entry))) ⌝ }
 {
@@ -229,16 +229,16 @@ pub fn vmov(word: u32, vc: &mut [u32], v: &mut [u8]) -> Counts
     ports::put(lanes::moves::vmov(f.byte), f.dst, f.flags, vc, v)
 }
 
-pub fn mov_vc(word: u32, vc: &[u32], v: &mut [u8]) -> Counts
+pub fn mov_vc(word: u32, vc: &[u32], v: &mut [u8]) -> Counted
     requires { ⌜ (length (now vc) ≡ 4) × (length (now v) ≡ 512) ⌝ }
     ensures { λ n. ⌜ result n (vectors (now (vc .entry)) (now (v .exit))) ≡ resultOf (movFlagsOf (fieldsOf word)) (vectors (now (vc .entry)) (now (v .entry))) ⌝ }
 {
     let f = words::cut(word);
     pieces::set_vreg(v, f.dst, lanes::moves::mov_vc(vc[0], vc[1], vc[2], vc[3]));
-    terms::no_counts()
+    Counted::Nothing
 }
 
-pub fn vswz(word: u32, v: &mut [u8]) -> Counts
+pub fn vswz(word: u32, v: &mut [u8]) -> Counted
     requires { ⌜ length (now v) ≡ 512 ⌝ }
     ensures { λ n. ⌜ result n (vectors [] (now (v .exit))) ≡ resultOf (swzOf (fieldsOf word)) (vectors [] (now (v .entry))) ⌝ }
 {
@@ -247,7 +247,7 @@ pub fn vswz(word: u32, v: &mut [u8]) -> Counts
     let b = pieces::vreg(v, f.src2);
     let sel = pieces::vreg(v, f.src3);
     pieces::set_vreg(v, f.dst, lanes::shuffle::vswz(f.hi, a, b, sel));
-    terms::no_counts()
+    Counted::Nothing
 }
 
 // Source 1 names a pair of registers: the odd one holds what the distances are compared with. Where there is no $vc[VCDST] nothing is written.
@@ -265,11 +265,11 @@ fn compared(f: Fields, mask: u32, vc: &mut [u32], v: &[u8])
     }
 }
 
-pub fn vcmpad(word: u32, mask: u32, vc: &mut [u32], v: &[u8]) -> Counts
+pub fn vcmpad(word: u32, mask: u32, vc: &mut [u32], v: &[u8]) -> Counted
     requires { ⌜ (length (now vc) ≡ 4) × (length (now v) ≡ 512) ⌝ }
     ensures { λ n. ⌜ result n (vectors (now (vc .exit)) (now (v .entry))) ≡ resultOf (cmpadOf (fieldsOf word) mask) (vectors (now (vc .entry)) (now (v .entry))) ⌝ }
 {
     let f = words::cut(word);
     compared(f, mask, vc, v);
-    terms::no_counts()
+    Counted::Nothing
 }

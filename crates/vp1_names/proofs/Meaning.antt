@@ -20,7 +20,8 @@ use Rattle.words.specs.Fields.{fieldsOf}
 use Rattle.words.specs.Table.{rows, decodeAt, decodeOf}
 use Rattle.pieces.specs.State.{State}
 use Rattle.pieces.specs.Place.{Place, vec, signs, xlat}
-use Rattle.pieces.proofs.Right.{clash, and-true}
+use Rattle.pieces.proofs.Right.{clash}
+use Rattle.terms.proofs.Sums.{and-true}
 use Rattle.model.specs.Prog.{run, puts, Done}
 use Rattle.model.specs.Step.{sem, stepped, counted, Outcome, outcome, refusal, byDecoded, tripleOf, stepOf}
 use Rattle.model.specs.Table.{reads, writes}

@@ -1,11 +1,11 @@
 -- `address::add` meets its contract.
-use Rattle.address.specs.inner.Effect.{resultOf, addressed, countsIn}
+use Rattle.address.specs.inner.Effect.{resultOf, addressed, countedIn}
 use borrow.Author.Needs.{needs}
 use Rattle.address.proofs.add.Statement.{statement}
 use Rattle.address.proofs.add.Tie as tie
 
 pub add-spec : {M : Type 1} → statement M
-unfolding resultOf addressed countsIn
+unfolding resultOf addressed countedIn
 add-spec =
     tie.close
     (tie.spec
@@ -20,5 +20,4 @@ add-spec =
     (λ c κs. search needs)
     (λ c. search needs)
     (λ c. search needs)
-    (λ c. search needs)
-    (λ c. rw (c .no-counts .ensures) cc))
+    (λ c. cc))

@@ -1,11 +1,11 @@
 -- `address::bitop` meets its contract.
-use Rattle.address.specs.inner.Effect.{resultOf, addressed, countsIn}
+use Rattle.address.specs.inner.Effect.{resultOf, addressed, countedIn}
 use borrow.Author.Needs.{needs}
 use Rattle.address.proofs.bitop.Statement.{statement}
 use Rattle.address.proofs.bitop.Tie as tie
 
 pub bitop-spec : {M : Type 1} → statement M
-unfolding resultOf addressed countsIn
+unfolding resultOf addressed countedIn
 bitop-spec =
     tie.close
     (tie.spec
@@ -20,5 +20,4 @@ bitop-spec =
     (λ c κs. search needs)
     (λ c. search needs)
     (λ c. search needs)
-    (λ c. search needs)
-    (λ c. rw (c .no-counts .ensures) cc))
+    (λ c. cc))

@@ -1,12 +1,12 @@
 -- `address::ldavv` meets its contract.
 use mathlib.Core.Path.{refl}
-use Rattle.address.specs.inner.Effect.{resultOf, addressed, countsIn, fetched, kept, intoR, intoV, outOf}
+use Rattle.address.specs.inner.Effect.{resultOf, addressed, countedIn, fetched, kept, intoR, intoV, outOf}
 use borrow.Author.Needs.{needs}
 use Rattle.address.proofs.ldavv.Statement.{statement}
 use Rattle.address.proofs.ldavv.Tie as tie
 
 pub ldavv-spec : {M : Type 1} → statement M
-unfolding resultOf addressed countsIn fetched kept intoR intoV outOf
+unfolding resultOf addressed countedIn fetched kept intoR intoV outOf
 ldavv-spec =
     tie.close
     (tie.spec

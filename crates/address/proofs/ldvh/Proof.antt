@@ -1,12 +1,12 @@
 -- `address::ldvh` meets its contract.
 use mathlib.Core.Path.{refl}
-use Rattle.address.specs.inner.Effect.{resultOf, addressed, countsIn, fetched, kept, intoR, intoV, outOf}
+use Rattle.address.specs.inner.Effect.{resultOf, addressed, countedIn, fetched, kept, intoR, intoV, outOf}
 use borrow.Author.Needs.{needs}
 use Rattle.address.proofs.ldvh.Statement.{statement}
 use Rattle.address.proofs.ldvh.Tie as tie
 
 pub ldvh-spec : {M : Type 1} → statement M
-unfolding resultOf addressed countsIn fetched kept intoR intoV outOf
+unfolding resultOf addressed countedIn fetched kept intoR intoV outOf
 ldvh-spec =
     tie.close
     (tie.spec

@@ -1,11 +1,11 @@
 -- `address::setlo` meets its contract.
-use Rattle.address.specs.inner.Effect.{resultOf, addressed, countsIn}
+use Rattle.address.specs.inner.Effect.{resultOf, addressed, countedIn}
 use borrow.Author.Needs.{needs}
 use Rattle.address.proofs.setlo.Statement.{statement}
 use Rattle.address.proofs.setlo.Tie as tie
 
 pub setlo-spec : {M : Type 1} → statement M
-unfolding resultOf addressed countsIn
+unfolding resultOf addressed countedIn
 setlo-spec =
     tie.close
     (tie.spec
@@ -16,5 +16,4 @@ setlo-spec =
     (λ c. search needs)
     (λ c. search needs)
     (λ c. search needs)
-    (λ c. search needs)
-    (λ c. rw (c .no-counts .ensures) cc))
+    (λ c. cc))

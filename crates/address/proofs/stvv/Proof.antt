@@ -1,12 +1,12 @@
 -- `address::stvv` meets its contract.
 use mathlib.Core.Path.{refl}
-use Rattle.address.specs.inner.Effect.{resultOf, addressed, countsIn, fetched, kept, intoR, intoV, outOf}
+use Rattle.address.specs.inner.Effect.{resultOf, addressed, countedIn, fetched, kept, intoR, intoV, outOf}
 use borrow.Author.Needs.{needs}
 use Rattle.address.proofs.stvv.Statement.{statement}
 use Rattle.address.proofs.stvv.Tie as tie
 
 pub stvv-spec : {M : Type 1} → statement M
-unfolding resultOf addressed countsIn fetched kept intoR intoV outOf
+unfolding resultOf addressed countedIn fetched kept intoR intoV outOf
 stvv-spec =
     tie.close
     (tie.spec

@@ -1,4 +1,4 @@
--- What an address instruction makes of the pieces that it may change, in one formula each. proofs/Closed.antt shows that the model says the same.
+-- What an address instruction makes of the pieces that it may change, in one formula each, and what it counts. proofs/Closed.antt shows that the model says the same.
 use Prim.Native.Nat.{ℕ, _+_, _%_}
 use mathlib.Core.List.{List}
 use lib.Bits.{bitOr}
@@ -7,8 +7,8 @@ use Rattle.bits.specs.Bitop.{bitop}
 use Rattle.signed.specs.Signed.{low}
 use Rattle.banks.specs.Line.{addresses}
 use Rattle.banks.specs.inner.Access.{places, cellsOf}
-use Rattle.terms.specs.Counts.{none, entering}
-use Rattle.terms.specs.declared.Counts.{Counts}
+use Rattle.terms.specs.declared.Counted.{Counted}
+use Rattle.terms.specs.declared.Counted.the-variants.{Nothing, Cells}
 use Rattle.terms.specs.declared.Way.{Way}
 use Rattle.terms.specs.declared.Way.the-variants.{Horizontal, Vertical, Scalar}
 use Rattle.store.specs.inner.Loads.{loaded, stored, wordOf, bytesOf}
@@ -99,26 +99,26 @@ addressed (Sta o) s =
     storing (o .way) (o .reg) (b .stride) (b .addr) (addrAt (o .base) x (s .a)) (endAt (o .cdst) x (b .limit) (s .c)) s
 
 -- what it counts: the cells that its access enters
-abbrev pub enteredIn : Way → ℕ → List ℕ → Counts
-enteredIn way n a = entering (cellsOf way (baseIn a n .stride))
+abbrev pub enteredIn : Way → ℕ → List ℕ → Counted
+enteredIn way n a = Cells (cellsOf way (baseIn a n .stride))
 
-unfoldable pub countsIn : Address → List ℕ → Counts
-countsIn (Set o) a = none
-countsIn (Add o) a = none
-countsIn (Bitop o) a = none
-countsIn (Aadd o) a = none
-countsIn (Ld o) a = enteredIn (o .way) (o .base) a
-countsIn (St o) a = enteredIn (o .way) (o .base) a
-countsIn (Lda o) a = enteredIn (o .way) (o .base) a
-countsIn (Sta o) a = enteredIn (o .way) (o .base) a
+unfoldable pub countedIn : Address → List ℕ → Counted
+countedIn (Set o) a = Nothing
+countedIn (Add o) a = Nothing
+countedIn (Bitop o) a = Nothing
+countedIn (Aadd o) a = Nothing
+countedIn (Ld o) a = enteredIn (o .way) (o .base) a
+countedIn (St o) a = enteredIn (o .way) (o .base) a
+countedIn (Lda o) a = enteredIn (o .way) (o .base) a
+countedIn (Sta o) a = enteredIn (o .way) (o .base) a
 
 -- what it comes to: what it counts, and the five pieces afterwards
 pub record Result : Type 0 where
-  pub counts : Counts
+  pub counted : Counted
   pub after : Pieces
 
-abbrev pub result : Counts → Pieces → Result
-result c p = record { counts = c; after = p }
+abbrev pub result : Counted → Pieces → Result
+result n p = record { counted = n; after = p }
 
 unfoldable pub resultOf : Address → Pieces → Result
-resultOf i p = result (countsIn i (p .a)) (addressed i p)
+resultOf i p = result (countedIn i (p .a)) (addressed i p)

@@ -2,13 +2,13 @@
 -- does is said in lane's Lane.antt and in Lanes.antt, and proofs/Unpacking.antt shows that each result here stands for that.
 use mathlib.Core.Bool.{Bool, true, false, cond}
 use mathlib.Core.List.{List}
-use Prim.Native.Nat.{ℕ, _+_, _*_, _-_}
+use Prim.Native.Nat.{ℕ, _+_, _*_, _-_, _%_}
 use lib.Dec.{eqb, ltb, leb}
 use lib.ListN.{getD}
 use Rattle.lane.specs.Lane.{Lane, arithLane, shiftLane, clipLane, minAbsLane, add9Lane, bitopLane, logicLane, movLane, movImmLane}
 use Rattle.lane.specs.declared.Calc.{Calc}
 use Rattle.lane.specs.declared.Logic.{Logic}
-use Rattle.lanes.specs.Lanes.{Lanes, listed, flags, pairAt}
+use Rattle.lanes.specs.Lanes.{Lanes, listed, flags, howMany, pairAt}
 use Rattle.lanes.specs.declared.Unpacked.{Unpacked}
 
 -- the bytes that are 0, and the bytes with bit 7 set
@@ -18,28 +18,38 @@ zerosOf l = flags 16 (λ i. eqb (getD l i 0) 0)
 unfoldable pub topsOf : List ℕ → ℕ
 topsOf l = flags 16 (λ i. leb 0x80 (getD l i 0))
 
+-- how many are odd
+unfoldable pub tallyOf : List ℕ → ℕ
+tallyOf l = howMany 16 (λ i. eqb (getD l i 0 % 2) 1)
+
 -- what it stands for once packed
 unfoldable pub packs : Unpacked → Lanes
-packs m = record { bytes = m .bytes; signs = topsOf (m .tops); zeros = zerosOf (m .tested) }
+packs m = record { bytes = m .bytes; signs = topsOf (m .tops); zeros = zerosOf (m .tested); clipped = m .clipped }
 
 -- one component of such a result, and sixteen
 pub record UnpackedLane : Type 0 where
   pub byte : ℕ
   pub tested : ℕ
   pub top : ℕ
+  pub clipped : Bool
 
 unfoldable pub unpackedOf : (ℕ → UnpackedLane) → Unpacked
-unpackedOf f = record { bytes = listed 16 (λ i. f i .byte); tested = listed 16 (λ i. f i .tested); tops = listed 16 (λ i. f i .top) }
+unpackedOf f = record {
+  bytes = listed 16 (λ i. f i .byte);
+  tested = listed 16 (λ i. f i .tested);
+  tops = listed 16 (λ i. f i .top);
+  clipped = howMany 16 (λ i. f i .clipped);
+}
 
 -- the ways in which a component's flags are left: both in the byte; the sign flag in a byte of its own, 255 or 0; the zero flag, 0 or 1
 abbrev pub bothIn : Lane → UnpackedLane
-bothIn l = record { byte = l .byte; tested = l .byte; top = l .byte }
+bothIn l = record { byte = l .byte; tested = l .byte; top = l .byte; clipped = l .clipped }
 
 abbrev pub signBeside : Lane → UnpackedLane
-signBeside l = record { byte = l .byte; tested = l .byte; top = cond (l .sign) 255 0 }
+signBeside l = record { byte = l .byte; tested = l .byte; top = cond (l .sign) 255 0; clipped = l .clipped }
 
 abbrev pub zeroBeside : Lane → UnpackedLane
-zeroBeside l = record { byte = l .byte; tested = cond (l .zero) 0 1; top = l .byte }
+zeroBeside l = record { byte = l .byte; tested = cond (l .zero) 0 1; top = l .byte; clipped = l .clipped }
 
 -- the operations, as in Lanes.antt
 unfoldable pub arithUnpacked : Calc → Bool → List ℕ → List ℕ → Unpacked

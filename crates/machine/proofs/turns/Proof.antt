@@ -7,13 +7,17 @@ use native.Mathlib.Nat.{le-trans}
 use borrow.Author.Needs.{needs}
 use lib.ListN.{length, drop, getD}
 use Rattle.terms.specs.Answers.{number}
-use Rattle.terms.specs.inner.Runs.{endOf, most}
+use Rattle.terms.specs.inner.Runs.{endOf, amount, most}
 use Rattle.terms.specs.Counts.{none, plus, Within}
+use Rattle.terms.specs.declared.Counted.{Counted}
 use Rattle.terms.specs.declared.Counts.{Counts}
 use Rattle.terms.specs.declared.Refusal.{Refusal}
 use Rattle.terms.proofs.Sums.{within-none, within-plus, within-le}
 use Rattle.pieces.specs.State.{State, state, Sized}
+use Rattle.model.specs.Step.{tripleOf}
 use Rattle.model.specs.Run.{RunOutcome, triples, ended, runFrom}
+use Rattle.units.specs.inner.Answers.{answerOutcome}
+use Rattle.units.proofs.Units.{outcome-of}
 use Rattle.machine.specs.Answers.{runOutcome}
 use Rattle.machine.specs.inner.Turns.{coveredBy}
 use Rattle.terms.specs.declared.Answer.the-variants as A
@@ -92,22 +96,26 @@ module _ (p : tie.After-triple Inv-loop μ-loop) where
   abbrev after : State
   after = let x = p .triple .last .1 .1 .1 in state (x .0) (x .1 .0) (x .1 .1 .0) (x .1 .1 .1 .0) (x .1 .1 .1 .1 .0) (x .1 .1 .1 .1 .1 .0)
 
+  told : answerOutcome (p .triple .result) after
+      ≡ tripleOf (getD words (t .before .loop .i) 0) (getD words (t .before .loop .i + 1) 0) (getD words (t .before .loop .i + 2) 0) (l t)
+  told = outcome-of _ _ _ (l t) (p .triple .ensures)
+
   unspent : n t ≡ z .args .budget → ⊥
   unspent e = let h = here t .1 in let b : ⊥ = omega arith in b
 
-  small : (m : Counts) → p .triple .result ≡ A.Done m → Within 1 m
+  small : (m : Counted) → p .triple .result ≡ A.Done m → Within 1 (amount m)
   small m d =
       let i = t .before .loop .i in
-      cheap (p .triple .result) after (getD words i 0) (getD words (i + 1) 0) (getD words (i + 2) 0) (l t) (p .triple .ensures) m d
+      cheap (p .triple .result) after (getD words i 0) (getD words (i + 1) 0) (getD words (i + 2) 0) (l t) told m d
 
-  on : (m : Counts) → p .triple .result ≡ A.Done m → runFrom (z .args .budget) (triples (drop (t .before .loop .i + 3) words)) (n t + 1) (plus (t .before .loop .counts) m) after ≡ runFrom (z .args .budget) (triples words) 0 none (from z)
+  on : (m : Counted) → p .triple .result ≡ A.Done m → runFrom (z .args .budget) (triples (drop (t .before .loop .i + 3) words)) (n t + 1) (plus (t .before .loop .counts) (amount m)) after ≡ runFrom (z .args .budget) (triples words) 0 none (from z)
   on m d =
-      sym (turn (z .args .budget) words (t .before .loop .i) (n t) (t .before .loop .counts) (l t) (here t .0) (p .triple .result) after (p .triple .ensures) unspent m d)
+      sym (turn (z .args .budget) words (t .before .loop .i) (n t) (t .before .loop .counts) (l t) (here t .0) (p .triple .result) after told unspent m d)
       ∙ t .before .loop .inv .same
 
   off : (j : Refusal) → p .triple .result ≡ A.Refused j → ended (number (endOf (p .triple .result))) (n t) (t .before .loop .counts) after ≡ whole (t .before .before)
   off j d =
-      sym (halt (z .args .budget) words (t .before .loop .i) (n t) (t .before .loop .counts) (l t) (here t .0) (p .triple .result) after (p .triple .ensures) unspent j d)
+      sym (halt (z .args .budget) words (t .before .loop .i) (n t) (t .before .loop .counts) (l t) (here t .0) (p .triple .result) after told unspent j d)
       ∙ t .before .loop .inv .same
 
 -- an answer that is equal to one that was shown right
@@ -149,18 +157,18 @@ module _ (c : tie.After-known-told Inv-loop μ-loop) where
   abbrev sofar : Counts
   sofar = t p .before .loop .counts
 
-  abbrev more : Counts
+  abbrev more : Counted
   more = c .before .x .given .0 .0
 
-  cost : Within 1 more
+  cost : Within 1 (amount more)
   cost = small p more (c .before .x .given .1)
 
-  together : Within (n (t p) + 1) (plus sofar more)
-  together = within-plus (n (t p)) 1 sofar more (t p .before .loop .inv .counted) cost
+  together : Within (n (t p) + 1) (plus sofar (amount more))
+  together = within-plus (n (t p)) 1 sofar (amount more) (t p .before .loop .inv .counted) cost
 
-sum-requires : tie.Need-sum-requires Inv-loop μ-loop
-sum-requires c κs =
-    within-le (n (t (p c)) + 1) most (plus (sofar c) (more c)) (omega (arith, here (t (p c)) .1, z (p c) .fits .budget)) (together c)
+more-requires : tie.Need-more-requires Inv-loop μ-loop
+more-requires c κs =
+    within-le (n (t (p c)) + 1) most (plus (sofar c) (amount (more c))) (omega (arith, here (t (p c)) .1, z (p c) .fits .budget)) (together c)
 
 loop-again : tie.Need-loop-again Inv-loop μ-loop
 loop-again d =
@@ -174,14 +182,14 @@ loop-again d =
       till = q .till;
       at = omega (arith, q .at);
       within = rw (q .till) (h .2);
-      counted = rw (next, d .sum .ensures) (together c);
+      counted = rw (next, d .more .ensures) (together c);
       ds = k .0 ∙ q .ds;
       a = k .1 .0 ∙ q .a;
       r = k .1 .1 .0 ∙ q .r;
       c = k .1 .1 .1 .0 ∙ q .c;
       vc = k .1 .1 .1 .1 .0 ∙ q .vc;
       v = k .1 .1 .1 .1 .1 .0 ∙ q .v;
-      same = rw (next, d .sum .ensures) (on (p c) (c .before .x .given .0 .0) (c .before .x .given .1));
+      same = rw (next, d .more .ensures) (on (p c) (c .before .x .given .0 .0) (c .before .x .given .1));
     }
 
 -- after the last turn: as far as the budget covers the list
@@ -228,7 +236,7 @@ turns-spec =
     (λ c. search needs)
     (λ c. search needs)
     returns
-    sum-requires
+    more-requires
     (λ c. omega (arith, here (t (p (c .before))) .0))
     (λ c. let h = here (t (p (c .before))) .2 in let e = t (p (c .before)) .before .loop .inv .till in let l = t (p (c .before)) .loop-test .taken in omega (arith, l))
     loop-again

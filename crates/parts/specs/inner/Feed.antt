@@ -47,4 +47,4 @@ wordAt bs i = joined (getD bs i 0 ∷ getD bs (i + 1) 0 ∷ getD bs (i + 2) 0 �
 
 -- how many words the buffer takes next
 abbrev pub roomOf : ℕ → ℕ
-roomOf count = cond (ltb count 1536) (count / 4) 384
+roomOf count = cond (ltb count 1920) (count / 4) 480

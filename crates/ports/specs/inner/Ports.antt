@@ -4,7 +4,7 @@ use mathlib.Core.List.{List}
 use lib.ListN.{getD, replicate}
 use Rattle.lanes.specs.Lanes.{Lanes}
 use Rattle.pieces.specs.inner.Regs.{vregOf, withVreg, flagsAt}
-use Rattle.terms.specs.declared.Counts.{Counts}
+use Rattle.terms.specs.declared.Counted.{Counted}
 use Rattle.words.specs.Second.{Second}
 use Rattle.words.specs.Second.{Register, Byte, Absent}
 use Rattle.words.specs.Input.{Input}
@@ -34,8 +34,8 @@ lanesAt dst vcdst l s = vectors (flagsAt vcdst (l .signs) (l .zeros) (s .vc)) (w
 
 -- what an instruction comes to: what it counts, and the two pieces afterwards
 pub record Result : Type 0 where
-  pub counts : Counts
+  pub counted : Counted
   pub after : Vectors
 
-abbrev pub result : Counts → Vectors → Result
-result c s = record { counts = c; after = s }
+abbrev pub result : Counted → Vectors → Result
+result n s = record { counted = n; after = s }

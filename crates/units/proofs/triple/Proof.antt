@@ -10,20 +10,18 @@ use Rattle.words.specs.Address.{Address}
 use Rattle.words.specs.Vector.{Vector}
 use Rattle.words.specs.Insn as N
 use Rattle.words.specs.Decoded as D
-use Rattle.terms.specs.declared.Counts.{Counts}
 use Rattle.terms.specs.declared.Answer.{Answer}
 use Rattle.terms.specs.declared.Answer.the-variants as X
 use Rattle.terms.specs.declared.Refusal.{Refusal}
 use Rattle.words.specs.declared.Insn.{Insn}
 use Rattle.words.specs.declared.Decoded.the-variants as C
 use Rattle.words.proofs.Bound.{bounded}
-use Rattle.address.specs.inner.Effect.{Pieces, five, addressed, countsIn, intoR, intoV, outOf}
+use Rattle.address.specs.inner.Effect.{Pieces, five, addressed, countedIn, intoR, intoV, outOf}
 use Rattle.address.specs.inner.Effect as A
 use Rattle.ports.specs.inner.Ports as P
 use Rattle.vector.specs.inner.Effect as U
 use Rattle.pieces.specs.State.{State, state}
-use Rattle.model.specs.Step.{tripleOf}
-use Rattle.units.specs.inner.Answers.{answerOutcome, byInsn, refusedOf}
+use Rattle.units.specs.inner.Answers.{answered, byInsn, answeredOf, refusedOf}
 use Rattle.units.proofs.Units.{idling, vectoring, addressing, by-row}
 use Rattle.units.proofs.triple.Statement.{statement}
 use Rattle.units.proofs.triple.Tie as tie
@@ -68,23 +66,23 @@ module _ (p : tie.After-known-told) where
     there : Bounded (meant j)
     there = subst (λ (d : D.Decoded). BoundedD d) (sym row) (bounded (word decoded) (side decoded) (mask decoded))
 
-    ends : (n : N.Insn) → meant j ≡ n → byInsn n now ≡ tripleOf (word decoded) (side decoded) (mask decoded) now
+    ends : (n : N.Insn) → meant j ≡ n → byInsn n now ≡ answeredOf (word decoded) (side decoded) (mask decoded) now
     ends n q = by-row (word decoded) (side decoded) (mask decoded) now (D.Insn n) (ap D.Insn (sym q) ∙ row)
 
     of-vector : {i : Vector} → meant j ≡ N.Vector i → {z : P.Result} → z ≡ U.resultOf i (P.vectors (now .vc) (now .v))
-        → answerOutcome (X.Done (z .counts)) (state (now .ds) (now .a) (now .r) (now .c) (z .after .vc) (z .after .v)) ≡ tripleOf (word decoded) (side decoded) (mask decoded) now
+        → answered (X.Done (z .counted)) (state (now .ds) (now .a) (now .r) (now .c) (z .after .vc) (z .after .v)) ≡ answeredOf (word decoded) (side decoded) (mask decoded) now
     of-vector {i} q f = vectoring now i f ∙ ends (N.Vector i) q
 
     of-address : (g : Pieces → Pieces) (l : Pieces) {i : Address} → meant j ≡ N.Address i → {z : A.Result} → z ≡ A.resultOf i l
-        → countsIn i (l .a) ≡ countsIn i (now .a) → g (addressed i l) ≡ addressed i (five (now .ds) (now .a) (now .r) (now .c) (now .v))
-        → answerOutcome (X.Done (z .counts)) (state (g (z .after) .ds) (g (z .after) .a) (g (z .after) .r) (g (z .after) .c) (now .vc) (g (z .after) .v)) ≡ tripleOf (word decoded) (side decoded) (mask decoded) now
+        → countedIn i (l .a) ≡ countedIn i (now .a) → g (addressed i l) ≡ addressed i (five (now .ds) (now .a) (now .r) (now .c) (now .v))
+        → answered (X.Done (z .counted)) (state (g (z .after) .ds) (g (z .after) .a) (g (z .after) .r) (g (z .after) .c) (now .vc) (g (z .after) .v)) ≡ answeredOf (word decoded) (side decoded) (mask decoded) now
     of-address g l {i} q f h k = addressing now g l i f h k ∙ ends (N.Address i) q
 
 returns : tie.Need-returns
 returns c =
     let p = c .before .before .before in
     let g = c .before .enum-told .given in
-    ap (λ (x : Answer). answerOutcome x (state-now p)) (c .refused .ensures ∙ ap refusedOf (g .1))
+    ap (λ (x : Answer). answered x (state-now p)) (c .refused .ensures ∙ ap refusedOf (g .1))
     ∙ by-row (word p) (side p) (mask p) (state-now p) (D.Refused (g .0 .0)) (refusal p (g .0 .0) (g .1))
 
 -- the pieces that a function is lent, among those that it is not
@@ -162,8 +160,8 @@ unfolding meant
 vabsU c = let p = c .before .before .before .before .before .before .before .before .before .before in of-vector p (c .before .before .before .before .before .before .before .before .i12 .given .1) refl (c .before .before .before .before .vabs-u .ensures)
 
 vswz : tie.Need-returns-14
-unfolding meant U.resultOf U.vectored
-vswz c = let p = c .before .before .before .before .before .before .before in of-vector p (c .before .before .before .before .before .i13 .given .1) refl (ap (λ (z : P.Result). P.result (z .counts) (P.vectors (now p .vc) (z .after .v))) (c .before .before .vswz .ensures))
+unfolding meant U.resultOf U.vectored U.countedOf
+vswz c = let p = c .before .before .before .before .before .before .before in of-vector p (c .before .before .before .before .before .i13 .given .1) refl (ap (λ (z : P.Result). P.result (z .counted) (P.vectors (now p .vc) (z .after .v))) (c .before .before .vswz .ensures))
 
 vaddU : tie.Need-returns-15
 unfolding meant
@@ -215,14 +213,14 @@ movVc c = let p = c .before .before .before .before .before .before .before .bef
 
 nop : tie.Need-returns-27
 unfolding meant
-nop c = let p = c .before .before .before in ap (λ (k : Counts). answerOutcome (X.Done k) (now p)) (c .no-counts .ensures) ∙ idling (now p) ∙ ends p (c .before .enum-told2 .given .1) N.Nop refl
+nop c = let p = c .before .before in idling (now p) ∙ ends p (c .enum-told2 .given .1) N.Nop refl
 
 ldavh-requires : tie.Need-ldavh-requires
 unfolding meant BoundedA
 ldavh-requires c κs = (search needs, search needs, search needs, search needs, there (c .before .before .before .before .before .before .before) (c .before .before .before .before .before .i26 .given .1) .2)
 
 ldavh : tie.Need-returns-28
-unfolding meant addressed countsIn intoR intoV outOf
+unfolding meant addressed countedIn intoR intoV outOf
 ldavh c = let p = c .before .before .before .before .before .before .before .before .before .before .before .before .before .before in of-address p (c .before .before .before .before .before .before .before .before .before .before .before .before .i26 .given .1) (but-r (now p)) (but-r-lent (now p)) refl (c .before .before .before .before .before .before .ldavh .ensures) refl refl
 
 ldavv-requires : tie.Need-ldavv-requires
@@ -230,7 +228,7 @@ unfolding meant BoundedA
 ldavv-requires c κs = (search needs, search needs, search needs, search needs, there (c .before .before .before .before .before .before .before) (c .before .before .before .before .before .i27 .given .1) .2)
 
 ldavv : tie.Need-returns-29
-unfolding meant addressed countsIn intoR intoV outOf
+unfolding meant addressed countedIn intoR intoV outOf
 ldavv c = let p = c .before .before .before .before .before .before .before .before .before .before .before .before .before .before in of-address p (c .before .before .before .before .before .before .before .before .before .before .before .before .i27 .given .1) (but-r (now p)) (but-r-lent (now p)) refl (c .before .before .before .before .before .before .ldavv .ensures) refl refl
 
 ldas-requires : tie.Need-ldas-requires
@@ -238,7 +236,7 @@ unfolding meant BoundedA
 ldas-requires c κs = (search needs, search needs, search needs, search needs, there (c .before .before .before .before .before .before .before) (c .before .before .before .before .before .i28 .given .1) .2)
 
 ldas : tie.Need-returns-30
-unfolding meant addressed countsIn intoR intoV outOf
+unfolding meant addressed countedIn intoR intoV outOf
 ldas c = let p = c .before .before .before .before .before .before .before .before .before .before .before .before .before .before in of-address p (c .before .before .before .before .before .before .before .before .before .before .before .before .i28 .given .1) (but-v (now p)) (but-v-lent (now p)) refl (c .before .before .before .before .before .before .ldas .ensures) refl refl
 
 stavh-requires : tie.Need-stavh-requires
@@ -246,7 +244,7 @@ unfolding meant BoundedA
 stavh-requires c κs = (search needs, search needs, search needs, search needs, there (c .before .before .before .before .before .before .before) (c .before .before .before .before .before .i29 .given .1) .2)
 
 stavh : tie.Need-returns-31
-unfolding meant addressed countsIn intoR intoV outOf
+unfolding meant addressed countedIn intoR intoV outOf
 stavh c = let p = c .before .before .before .before .before .before .before .before .before .before .before .before .before .before in of-address p (c .before .before .before .before .before .before .before .before .before .before .before .before .i29 .given .1) (but-r (now p)) (but-r-lent (now p)) refl (c .before .before .before .before .before .before .stavh .ensures) refl refl
 
 stavv-requires : tie.Need-stavv-requires
@@ -254,7 +252,7 @@ unfolding meant BoundedA
 stavv-requires c κs = (search needs, search needs, search needs, search needs, there (c .before .before .before .before .before .before .before) (c .before .before .before .before .before .i30 .given .1) .2)
 
 stavv : tie.Need-returns-32
-unfolding meant addressed countsIn intoR intoV outOf
+unfolding meant addressed countedIn intoR intoV outOf
 stavv c = let p = c .before .before .before .before .before .before .before .before .before .before .before .before .before .before in of-address p (c .before .before .before .before .before .before .before .before .before .before .before .before .i30 .given .1) (but-r (now p)) (but-r-lent (now p)) refl (c .before .before .before .before .before .before .stavv .ensures) refl refl
 
 stas-requires : tie.Need-stas-requires
@@ -262,7 +260,7 @@ unfolding meant BoundedA
 stas-requires c κs = (search needs, search needs, search needs, search needs, there (c .before .before .before .before .before .before .before) (c .before .before .before .before .before .i31 .given .1) .2)
 
 stas : tie.Need-returns-33
-unfolding meant addressed countsIn intoR intoV outOf
+unfolding meant addressed countedIn intoR intoV outOf
 stas c = let p = c .before .before .before .before .before .before .before .before .before .before .before .before .before .before in of-address p (c .before .before .before .before .before .before .before .before .before .before .before .before .i31 .given .1) (but-v (now p)) (but-v-lent (now p)) refl (c .before .before .before .before .before .before .stas .ensures) refl refl
 
 aadd-requires : tie.Need-aadd-requires
@@ -270,7 +268,7 @@ unfolding meant BoundedA
 aadd-requires c κs = (search needs, search needs, there (c .before .before .before .before .before) (c .before .before .before .i32 .given .1) .1)
 
 aadd : tie.Need-returns-34
-unfolding meant addressed countsIn intoR intoV outOf
+unfolding meant addressed countedIn intoR intoV outOf
 aadd c = let p = c .before .before .before .before .before .before .before .before .before .before in of-address p (c .before .before .before .before .before .before .before .before .i32 .given .1) (a-and-c (now p)) (a-and-c-lent (now p)) refl (c .before .before .before .before .aadd .ensures) refl refl
 
 add-requires : tie.Need-add-requires
@@ -278,43 +276,43 @@ unfolding meant BoundedA
 add-requires c κs = (search needs, search needs, there (c .before .before .before .before .before) (c .before .before .before .i33 .given .1) .2)
 
 add : tie.Need-returns-35
-unfolding meant addressed countsIn intoR intoV outOf
+unfolding meant addressed countedIn intoR intoV outOf
 add c = let p = c .before .before .before .before .before .before .before .before .before .before in of-address p (c .before .before .before .before .before .before .before .before .i33 .given .1) (a-and-c (now p)) (a-and-c-lent (now p)) refl (c .before .before .before .before .add .ensures) refl refl
 
 setlo : tie.Need-returns-36
-unfolding meant addressed countsIn intoR intoV outOf
+unfolding meant addressed countedIn intoR intoV outOf
 setlo c = let p = c .before .before .before .before .before .before .before in of-address p (c .before .before .before .before .before .i34 .given .1) (just-a (now p)) (just-a-lent (now p)) refl (c .before .before .setlo .ensures) refl refl
 
 sethi : tie.Need-returns-37
-unfolding meant addressed countsIn intoR intoV outOf
+unfolding meant addressed countedIn intoR intoV outOf
 sethi c = let p = c .before .before .before .before .before .before .before in of-address p (c .before .before .before .before .before .i35 .given .1) (just-a (now p)) (just-a-lent (now p)) refl (c .before .before .sethi .ensures) refl refl
 
 bitop : tie.Need-returns-38
-unfolding meant addressed countsIn intoR intoV outOf
+unfolding meant addressed countedIn intoR intoV outOf
 bitop c = let p = c .before .before .before .before .before .before .before .before .before .before in of-address p (c .before .before .before .before .before .before .before .before .i36 .given .1) (a-and-c (now p)) (a-and-c-lent (now p)) refl (c .before .before .before .before .bitop .ensures) refl refl
 
 ldvh : tie.Need-returns-39
-unfolding meant addressed countsIn intoR intoV outOf
+unfolding meant addressed countedIn intoR intoV outOf
 ldvh c = let p = c .before .before .before .before .before .before .before .before .before .before .before .before in of-address p (c .before .before .before .before .before .before .before .before .before .before .i37 .given .1) (but-r (now p)) (but-r-lent (now p)) refl (c .before .before .before .before .ldvh .ensures) refl refl
 
 ldvv : tie.Need-returns-40
-unfolding meant addressed countsIn intoR intoV outOf
+unfolding meant addressed countedIn intoR intoV outOf
 ldvv c = let p = c .before .before .before .before .before .before .before .before .before .before .before .before in of-address p (c .before .before .before .before .before .before .before .before .before .before .i38 .given .1) (but-r (now p)) (but-r-lent (now p)) refl (c .before .before .before .before .ldvv .ensures) refl refl
 
 lds : tie.Need-returns-41
-unfolding meant addressed countsIn intoR intoV outOf
+unfolding meant addressed countedIn intoR intoV outOf
 lds c = let p = c .before .before .before .before .before .before .before .before .before .before .before .before in of-address p (c .before .before .before .before .before .before .before .before .before .before .i39 .given .1) (but-v (now p)) (but-v-lent (now p)) refl (c .before .before .before .before .lds .ensures) refl refl
 
 stvh : tie.Need-returns-42
-unfolding meant addressed countsIn intoR intoV outOf
+unfolding meant addressed countedIn intoR intoV outOf
 stvh c = let p = c .before .before .before .before .before .before .before .before .before .before .before .before in of-address p (c .before .before .before .before .before .before .before .before .before .before .i40 .given .1) (but-r (now p)) (but-r-lent (now p)) refl (c .before .before .before .before .stvh .ensures) refl refl
 
 stvv : tie.Need-returns-43
-unfolding meant addressed countsIn intoR intoV outOf
+unfolding meant addressed countedIn intoR intoV outOf
 stvv c = let p = c .before .before .before .before .before .before .before .before .before .before .before .before in of-address p (c .before .before .before .before .before .before .before .before .before .before .i41 .given .1) (but-r (now p)) (but-r-lent (now p)) refl (c .before .before .before .before .stvv .ensures) refl refl
 
 sts : tie.Need-returns-44
-unfolding meant addressed countsIn intoR intoV outOf
+unfolding meant addressed countedIn intoR intoV outOf
 sts c = let p = c .before .before .before .before .before .before .before .before .before .before .before .before in of-address p (c .before .before .before .before .before .before .before .before .before .before .i42 .given .1) (but-v (now p)) (but-v-lent (now p)) refl (c .before .before .before .before .sts .ensures) refl refl
 
 -- the lengths that an access keeps, a declaration each: with the others in one it would take more steps than a declaration may
@@ -546,7 +544,6 @@ triple-spec =
     (λ c. search needs)
     (λ c κs. search needs)
     (λ c. search needs)
-    (λ c κs. search needs)
     (λ c. search needs)
     ldavh-requires
     (λ c. search needs)

@@ -1,14 +1,14 @@
 -- `vector::vadd_u` meets its contract.
 use mathlib.Core.Path.{refl, _∙_}
 use Rattle.ports.specs.inner.Ports.{secondOf}
-use Rattle.vector.specs.inner.Effect.{resultOf, vectored}
+use Rattle.vector.specs.inner.Effect.{resultOf, countedOf, vectored}
 use Rattle.lanes.proofs.Unpacking.{arith-packs}
 use borrow.Author.Needs.{needs}
 use Rattle.vector.proofs.vadd_u.Statement.{statement}
 use Rattle.vector.proofs.vadd_u.Tie as tie
 
 pub vadd-u-spec : {M : Type 1} → statement M
-unfolding resultOf vectored secondOf
+unfolding resultOf countedOf vectored secondOf
 vadd-u-spec =
     tie.close
     (tie.spec
@@ -19,4 +19,4 @@ vadd-u-spec =
     (λ c κs. search needs)
     (λ c. search needs)
     (λ c. search needs)
-    (λ c. c .before .before .before .before .put .ensures ∙ rw (c .before .before .before .before .before .before .before .vadd-u .ensures, arith-packs, c .before .before .before .before .before .before .before .before .second-of .ensures, c .before .before .before .before .before .before .before .before .before .before .vreg .ensures, c .before .before .before .before .before .before .before .before .before .before .before .before .cut .ensures .0) refl))
+    (λ c. c .before .before .before .before .put-clipped .ensures ∙ rw (c .before .before .before .before .before .before .before .vadd-u .ensures, arith-packs, c .before .before .before .before .before .before .before .before .second-of .ensures, c .before .before .before .before .before .before .before .before .before .before .vreg .ensures, c .before .before .before .before .before .before .before .before .before .before .before .before .cut .ensures .0) refl))

@@ -1,14 +1,14 @@
 -- `vector::vbitop` meets its contract.
 use mathlib.Core.Path.{refl, _∙_}
 use Rattle.ports.specs.inner.Ports.{secondOf}
-use Rattle.vector.specs.inner.Effect.{resultOf, vectored}
+use Rattle.vector.specs.inner.Effect.{resultOf, countedOf, vectored}
 use Rattle.lanes.proofs.Unpacking.{bitop-packs}
 use borrow.Author.Needs.{needs}
 use Rattle.vector.proofs.vbitop.Statement.{statement}
 use Rattle.vector.proofs.vbitop.Tie as tie
 
 pub vbitop-spec : {M : Type 1} → statement M
-unfolding resultOf vectored secondOf
+unfolding resultOf countedOf vectored secondOf
 vbitop-spec =
     tie.close
     (tie.spec

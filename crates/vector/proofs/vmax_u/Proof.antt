@@ -1,14 +1,14 @@
 -- `vector::vmax_u` meets its contract.
 use mathlib.Core.Path.{refl, _∙_}
 use Rattle.ports.specs.inner.Ports.{secondOf}
-use Rattle.vector.specs.inner.Effect.{resultOf, vectored}
+use Rattle.vector.specs.inner.Effect.{resultOf, countedOf, vectored}
 use Rattle.lanes.proofs.Unpacking.{arith-packs}
 use borrow.Author.Needs.{needs}
 use Rattle.vector.proofs.vmax_u.Statement.{statement}
 use Rattle.vector.proofs.vmax_u.Tie as tie
 
 pub vmax-u-spec : {M : Type 1} → statement M
-unfolding resultOf vectored secondOf
+unfolding resultOf countedOf vectored secondOf
 vmax-u-spec =
     tie.close
     (tie.spec

@@ -1,14 +1,14 @@
 -- `vector::vmin_s` meets its contract.
 use mathlib.Core.Path.{refl, _∙_}
 use Rattle.ports.specs.inner.Ports.{secondOf}
-use Rattle.vector.specs.inner.Effect.{resultOf, vectored}
+use Rattle.vector.specs.inner.Effect.{resultOf, countedOf, vectored}
 use Rattle.lanes.proofs.Unpacking.{arith-packs}
 use borrow.Author.Needs.{needs}
 use Rattle.vector.proofs.vmin_s.Statement.{statement}
 use Rattle.vector.proofs.vmin_s.Tie as tie
 
 pub vmin-s-spec : {M : Type 1} → statement M
-unfolding resultOf vectored secondOf
+unfolding resultOf countedOf vectored secondOf
 vmin-s-spec =
     tie.close
     (tie.spec

@@ -1,14 +1,14 @@
 -- `vector::vmov` meets its contract.
 use mathlib.Core.Path.{refl, _∙_}
 use Rattle.ports.specs.inner.Ports.{secondOf}
-use Rattle.vector.specs.inner.Effect.{resultOf, vectored}
+use Rattle.vector.specs.inner.Effect.{resultOf, countedOf, vectored}
 use Rattle.lanes.proofs.Unpacking.{mov-imm-packs}
 use borrow.Author.Needs.{needs}
 use Rattle.vector.proofs.vmov.Statement.{statement}
 use Rattle.vector.proofs.vmov.Tie as tie
 
 pub vmov-spec : {M : Type 1} → statement M
-unfolding resultOf vectored secondOf
+unfolding resultOf countedOf vectored secondOf
 vmov-spec =
     tie.close
     (tie.spec

@@ -1,14 +1,14 @@
 -- `vector::vsar` meets its contract.
 use mathlib.Core.Path.{refl, _∙_}
 use Rattle.ports.specs.inner.Ports.{secondOf}
-use Rattle.vector.specs.inner.Effect.{resultOf, vectored}
+use Rattle.vector.specs.inner.Effect.{resultOf, countedOf, vectored}
 use Rattle.lanes.proofs.Unpacking.{shift-packs}
 use borrow.Author.Needs.{needs}
 use Rattle.vector.proofs.vsar.Statement.{statement}
 use Rattle.vector.proofs.vsar.Tie as tie
 
 pub vsar-spec : {M : Type 1} → statement M
-unfolding resultOf vectored secondOf
+unfolding resultOf countedOf vectored secondOf
 vsar-spec =
     tie.close
     (tie.spec

@@ -1,12 +1,15 @@
--- What a vector instruction makes of the two pieces that it changes, in one formula each. proofs/Closed.antt shows that the model says the same.
+-- What a vector instruction makes of the two pieces that it changes, in one formula each, and what it counts. proofs/Closed.antt shows that the model says the same.
+use mathlib.Core.Bool.{cond}
 use mathlib.Core.List.{[], _∷_}
 use lib.Bits.{bitOr}
 use lib.ListN.{getD}
+use Rattle.lane.specs.Lane.{tells}
 use Rattle.lanes.specs.Lanes.{arithLanes, shiftLanes, clipLanes, add9Lanes, minAbsLanes, bitopLanes, logicLanes, cmpadFlags, swizzled, movLanes, movImmLanes, flagBytes}
 use Rattle.lanes.specs.declared.Flags.{Flags}
 use Rattle.pieces.specs.inner.Regs.{vregOf, withVreg, flagsAt}
 use Rattle.ports.specs.inner.Ports.{Vectors, vectors, secondOf, inputOf, lanesAt, Result, result}
-use Rattle.terms.specs.Counts.{none}
+use Rattle.terms.specs.declared.Counted.{Counted}
+use Rattle.terms.specs.declared.Counted.the-variants.{Nothing, Clipped}
 use Rattle.words.specs.Vector.{Vector}
 use Rattle.words.specs.Vector.{Arith, Shift, Clip, Add9, MinAbs, Bitop, Logic, Cmpad, Swz, Mov, MovImm, MovFlags}
 
@@ -27,6 +30,22 @@ vectored (MovImm o) s = lanesAt (o .dst) (o .vcdst) (movImmLanes (o .byte)) s
 vectored (MovFlags dst) s =
     vectors (s .vc) (withVreg (s .v) dst (flagBytes (getD (s .vc) 0 0 ∷ getD (s .vc) 1 0 ∷ getD (s .vc) 2 0 ∷ getD (s .vc) 3 0 ∷ [])))
 
--- what an instruction comes to: what it counts, and the two pieces afterwards
+-- what an instruction counts: the components that are told as clipped, of those that tell
+unfoldable pub countedOf : Vector → Vectors → Counted
+countedOf (Arith o) s =
+    cond (tells (o .calc)) (Clipped (arithLanes (o .calc) (o .signed) (vregOf (s .v) (o .src1)) (secondOf (o .second) (s .v)) .clipped)) Nothing
+countedOf (Add9 o) s = Clipped (add9Lanes (vregOf (s .v) (o .src1)) (vregOf (s .v) (o .src2)) (vregOf (s .v) (o .src3)) .clipped)
+countedOf (Shift o) s = Nothing
+countedOf (Clip o) s = Nothing
+countedOf (MinAbs o) s = Nothing
+countedOf (Bitop o) s = Nothing
+countedOf (Logic o) s = Nothing
+countedOf (Cmpad o) s = Nothing
+countedOf (Swz o) s = Nothing
+countedOf (Mov o) s = Nothing
+countedOf (MovImm o) s = Nothing
+countedOf (MovFlags dst) s = Nothing
+
+-- what it comes to: what it counts, and the two pieces afterwards
 unfoldable pub resultOf : Vector → Vectors → Result
-resultOf i s = result none (vectored i s)
+resultOf i s = result (countedOf i s) (vectored i s)

@@ -6,12 +6,12 @@ use lib.IntN.{pos}
 use mir.Facts.{toZ-ofZ}
 use Rattle.signed.specs.Signed.{sext}
 use Rattle.signed.proofs.Z.{passed, byteZ, mag-sext, add-fits}
-use Rattle.lane.specs.Lane.{add9Lane, saturated}
+use Rattle.lane.specs.Lane.{add9Lane, saturated, outside}
 use Rattle.lane.proofs.nine.sum.Statement.{statement}
 use Rattle.lane.proofs.nine.sum.Tie as tie
 
 pub sum-spec : {M : Type 1} → statement M
-unfolding add9Lane saturated
+unfolding add9Lane saturated outside
 sum-spec =
     tie.close
     (tie.spec

@@ -9,4 +9,4 @@ use Rattle.lanes.proofs.moves.mov.Tie as tie
 
 pub mov-spec : {M : Type 1} → statement M
 unfolding movUnpacked movLane
-mov-spec = tie.close (tie.spec (λ c. let e = elements (c .args .a) (c .good .0 .1 .0 .1) in quiet _ e e (λ i. refl)))
+mov-spec = tie.close (tie.spec (λ c. let e = elements (c .args .a) (c .good .0 .1 .0 .1) in quiet _ e e (λ i. refl) (λ i. refl)))

@@ -1,4 +1,5 @@
 -- `loops::arithmetic::vmax_s` meets its contract, by the loop law of the bytes.
+use mathlib.Core.Path.{refl}
 use mathlib.Core.Bool.{true}
 use Prim.Native.Nat.{_-_}
 use borrow.Author.Needs.{needs}
@@ -7,7 +8,7 @@ use Rattle.lane.specs.declared.Calc.the-variants.{Max}
 use Rattle.lane.specs.Lane.{arithLane}
 use Rattle.lanes.specs.inner.Unpacked.{arithUnpacked}
 use Rattle.lanes.proofs.Loop.{Made, made-start, made-more, made-all}
-use Rattle.lanes.proofs.Unpacking.{made}
+use Rattle.lanes.proofs.Unpacking.{untold}
 use Rattle.loops.proofs.arithmetic.vmax_s.Statement.{statement}
 use Rattle.loops.proofs.arithmetic.vmax_s.Tie as tie
 
@@ -18,10 +19,10 @@ abbrev μ : tie.MeasureT-loop
 μ a b x₀ i₀ x i = 16 - i
 
 pub vmax-s-spec : {M : Type 1} → statement M
-unfolding arithUnpacked
+unfolding arithUnpacked arithLane
 vmax-s-spec =
     tie.close
     (tie.spec Inv μ (λ c. made-start)
     (λ c. search needs) (λ c. search needs) (λ c κs. search needs) (λ c. search needs) (λ c. search needs) (λ c. search needs)
     (λ c. let top = c .before in made-more (top .before .loop .inv) (top .loop-test .taken) (c .vmax-s .ensures))
-    (λ c. let e = made-all (c .before .loop .inv) (c .loop-test .left) in made _ e e e))
+    (λ c. let e = made-all (c .before .loop .inv) (c .loop-test .left) in untold _ e e e (λ i. refl)))

@@ -1,12 +1,13 @@
 -- `loops::nine::vadd9` meets its contract, by the loop law of the bytes, for both lists, over the sixteen words of sources 2 and 3.
-use mathlib.Core.Path.{ap, _∙_}
+use mathlib.Core.Path.{refl, ap, _∙_}
 use mathlib.Core.Bool.{cond}
 use Prim.Native.Nat.{_-_}
 use borrow.Author.Needs.{needs}
 use lib.ListN.{getD}
-use Rattle.lane.specs.Lane.{add9Lane}
+use Rattle.lane.specs.Lane.{saturated, add9Lane}
 use Rattle.lane.specs.declared.nine.Saturated.{Saturated}
 use Rattle.lanes.specs.inner.Unpacked.{signBeside}
+use Rattle.lanes.proofs.Counting.{tallied}
 use Rattle.lanes.proofs.Loop.{Made, made-start, made-more, made-all}
 use Rattle.lanes.proofs.Unpacking.{made}
 use Rattle.loops.proofs.Words9.{by-words}
@@ -21,6 +22,7 @@ abbrev μ : tie.MeasureT-loop
 μ a w x₀ s₀ i₀ x s i = 16 - i
 
 pub vadd9-spec : {M : Type 1} → statement M
+unfolding add9Lane saturated
 vadd9-spec =
     tie.close
     (tie.spec Inv μ (λ c κs. search needs) (λ c. (made-start, made-start))
@@ -28,5 +30,7 @@ vadd9-spec =
     (λ c. search needs) (λ c. search needs) (λ c. search needs) (λ c. search needs)
     (λ c. let top = c .before in let u = top .before .loop .inv in let h = top .loop-test .taken in
     (made-more (u .0) h (ap (λ (r : Saturated). r .byte) (c .sum .ensures)), made-more (u .1) h (ap (λ (r : Saturated). r .top) (c .sum .ensures))))
-    (λ c. let l = c .before in let u = l .loop .inv in let h = c .loop-test .left in let e = made-all (u .0) h in
-    made (λ i. signBeside (add9Lane (getD (l .before .before .args .t1) i 0) (getD (l .before .words .result) i 0))) e e (made-all (u .1) h) ∙ by-words _ _ _ _ (l .before .words .ensures)))
+    (λ c κs. search needs)
+    (λ c. let l = c .before .before in let u = l .loop .inv in let h = c .before .loop-test .left in let e = made-all (u .0) h in let t = made-all (u .1) h in
+    made (λ i. signBeside (add9Lane (getD (l .before .before .args .t1) i 0) (getD (l .before .words .result) i 0))) e e t (c .tally .ensures ∙ tallied 255 refl _ t)
+    ∙ by-words _ _ _ _ (l .before .words .ensures)))

@@ -11,7 +11,7 @@ use Rattle.parts.proofs.bytes.fill.Statement.{statement}
 use Rattle.parts.proofs.bytes.fill.Tie as tie
 
 abbrev Inv-loop : tie.InvT-loop
-Inv-loop words₀ bytes at n k₀ words k = (k ≤ n) × (length words ≡ 384) × (words ≡ filled k (drop at bytes) words₀)
+Inv-loop words₀ bytes at n k₀ words k = (k ≤ n) × (length words ≡ 480) × (words ≡ filled k (drop at bytes) words₀)
 
 abbrev μ-loop : tie.MeasureT-loop
 μ-loop words₀ bytes at n k₀ words k = n - k

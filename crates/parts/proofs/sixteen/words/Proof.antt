@@ -14,7 +14,7 @@ use Rattle.parts.proofs.sixteen.words.Tie as tie
 
 listed : (r : Run) (b n : ℕ) (t : List ℕ) → b ≡ cond (r .over) 1 0 → n ≡ number (r .end) → t ≡ firstWords 3 (r .held)
     → r .budget ∷ b ∷ n ∷ r .steps ∷ r .counts .accesses % 4294967296 ∷ r .counts .accesses / 4294967296 ∷ r .count ∷ getD t 0 0 ∷ getD t 1 0 ∷ getD t 2 0
-    ∷ 0 ∷ 0 ∷ 0 ∷ 0 ∷ 0 ∷ 0 ∷ []
+    ∷ r .counts .clipped % 4294967296 ∷ r .counts .clipped / 4294967296 ∷ 0 ∷ 0 ∷ 0 ∷ 0 ∷ []
     ≡ worded r
 unfolding worded
 listed r b n t e f g = rw (e, f, g) refl
@@ -31,6 +31,8 @@ words-spec =
     (λ c κs. search needs)
     (λ c κs. search needs)
     (λ c κs. search needs)
+    (λ c. search needs)
+    (λ c. search needs)
     (λ c. search needs)
     (λ c. search needs)
     (λ c. search needs)

@@ -32,7 +32,7 @@ record Streaming (bs : List ℕ) (b whole : ℕ) (s₀ s : State) (from ran : Ra
   within : i ≤ whole
   budgeted : ran .steps ≤ b
   counted : Within (ran .steps) (ran .counts)
-  room : length words ≡ 384
+  room : length words ≡ 480
   sized : Sized s
   same : onward b (triples (wordsOf (drop i bs))) (runOutcome ran s) ≡ onward b (triples (wordsOf bs)) (runOutcome from s₀)
 
@@ -76,12 +76,12 @@ module _ (q : tie.After-room Inv-loop μ-loop) where
   abbrev turn : tie.In-loop Inv-loop μ-loop
   turn = q .before .before .before
 
-  fits : let n = q .room .result in (0 < n) × (n ≤ 384) × (n % 3 ≡ 0) × (turn .before .loop .i + n * 4 ≤ length (turn .before .before .before .before .before .before .before .before .before .args .bytes .now) / 12 * 12)
+  fits : let n = q .room .result in (0 < n) × (n ≤ 480) × (n % 3 ≡ 0) × (turn .before .loop .i + n * 4 ≤ length (turn .before .before .before .before .before .before .before .before .before .args .bytes .now) / 12 * 12)
   fits =
       room-fits (length (turn .before .before .before .before .before .before .before .before .before .args .bytes .now)) (turn .before .loop .i) (turn .before .loop .inv .at) (turn .loop-test .taken) (q .room .result) (q .room .ensures)
 
 -- the buffer, filled, is as long as it was
-filled : (c : tie.After-fill Inv-loop μ-loop) → length (c .fill .last .0) ≡ 384
+filled : (c : tie.After-fill Inv-loop μ-loop) → length (c .fill .last .0) ≡ 480
 filled c =
     let w = c .before .before .before .before .before .before .loop in
     ap length (c .fill .ensures) ∙ filled-length (c .before .before .room .result) _ (w .words) (omega (arith, w .inv .room, fits (c .before .before) .1)) ∙ w .inv .room
