@@ -4,6 +4,8 @@ use mathlib.Core.Path.{_≡_, refl, sym, ap, ap₂, _∙_}
 use Prim.Native.Nat.{ℕ, zero, suc, _+_, _*_, _-_, _/_, _%_, _^_, _≤_, _<_}
 use native.Mathlib.Omega.{arith}
 use native.Mathlib.Nat.{mod-lt, mod-eq-of-lt, div-add-mod', div-div-eq-div-mul, le-trans}
+use mathlib.Core.List.{[], _∷_}
+use lib.ListN.{getD}
 use lib.Bits.{bitAnd, bitXor, and-block, and-mask}
 use lib.Pow.{split, pow-pos, ones-lt, pow-mono}
 use Rattle.banks.specs.Bank.{hiloOf, cellOf, turnOf, bankOf, placeOf, at}
@@ -62,13 +64,27 @@ pub at-line : (c a : ℕ) → a < 8192 → at c a ≡ bankOf c a * 512 + a / 16
 unfolding at placeOf
 at-line c a h = omega (arith, above a h)
 
-pub turn-shift : (c a : ℕ) → c < 4 → (c ≡ 0 → ⊥) → a / 2 ^ (4 + c) ≡ turnOf c a
+-- an entry of a table by stride code
+pub entry-lt : (n x y z w : ℕ) → (x < n) × (y < n) × (z < n) × (w < n) → (c : ℕ) → c < 4 → getD (x ∷ y ∷ z ∷ w ∷ []) c 0 < n
+entry-lt n x y z w h zero l = h .0
+entry-lt n x y z w h (suc zero) l = h .1
+entry-lt n x y z w h (suc (suc zero)) l = h .2
+entry-lt n x y z w h (suc (suc (suc zero))) l = h .3
+entry-lt n x y z w h (suc (suc (suc (suc c)))) l = absurd (omega arith)
+
+-- no more than n bits are left, so that the mask of n bits keeps all
+kept : (x n : ℕ) → x < 2 ^ n → bitAnd x (2 ^ n - 1) ≡ x
+kept x n h = and-mask x n ∙ mod-eq-of-lt h
+
+-- the code's table of shifts and masks gives k
+pub turn-table : (c a : ℕ) → c < 4 → a < 8192
+    → bitAnd (a / 2 ^ getD (5 ∷ 5 ∷ 6 ∷ 7 ∷ []) c 0) (getD (0x07 ∷ 0xff ∷ 0x7f ∷ 0x3f ∷ []) c 0) ≡ turnOf c a
 unfolding turnOf
-turn-shift zero a h p = absurd (p refl)
-turn-shift (suc zero) a h p = refl
-turn-shift (suc (suc zero)) a h p = refl
-turn-shift (suc (suc (suc zero))) a h p = refl
-turn-shift (suc (suc (suc (suc c)))) a h p = absurd (omega arith)
+turn-table zero a h l = and-mask (a / 32) 3
+turn-table (suc zero) a h l = kept (a / 32) 8 (omega arith)
+turn-table (suc (suc zero)) a h l = kept (a / 64) 7 (omega arith)
+turn-table (suc (suc (suc zero))) a h l = kept (a / 128) 6 (omega arith)
+turn-table (suc (suc (suc (suc c)))) a h l = absurd (omega arith)
 
 pub column-cells : (c : ℕ) → (c ≡ 0 → ⊥) → 16 ≡ cellsOf Vertical c
 unfolding cellsOf

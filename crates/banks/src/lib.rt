@@ -7,16 +7,17 @@ ghost use Rattle.banks.specs.Line.{startOf, stepOf};
 ghost use Rattle.banks.specs.inner.Access.{cellsOf};
 use terms::Way;
 
+// k of document 01, by stride code: how far an address is shifted to the right, and what is kept of it.
+const SHIFT: [u8; 4] = [5, 5, 6, 7];
+
+const MASK: [u8; 4] = [0x07, 0xff, 0x7f, 0x3f];
+
 // What the low four bits of an address are moved on by.
 fn turn(code: usize, addr: usize) -> usize
     requires { ⌜ (code < 4) × (addr < 8192) ⌝ }
     ensures { λ r. ⌜ r ≡ turnOf code addr ⌝ }
 {
-    if code == 0 {
-        addr / 32 % 8
-    } else {
-        addr >> (4 + code)
-    }
+    addr >> SHIFT[code] & MASK[code] as usize
 }
 
 pub fn bank(code: usize, addr: usize) -> usize

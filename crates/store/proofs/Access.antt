@@ -1,7 +1,7 @@
 -- The places of an access are those that the loops go over.
 use mathlib.Core.Path.{_≡_, refl, sym, ap, ap₂, _∙_}
 use mathlib.Core.List.{List, [], _∷_, map-map}
-use Prim.Native.Nat.{ℕ, zero, suc, _+_, _*_, _-_, _/_, _%_, _<_}
+use Prim.Native.Nat.{ℕ, zero, suc, _+_, _*_, _-_, _/_, _%_, _<_, _≤_}
 use native.Mathlib.Omega.{arith}
 use native.Mathlib.Nat.{add-zero, mul-add}
 use lib.ListN.{length, drop}
@@ -18,7 +18,6 @@ use Rattle.banks.proofs.Masks.{at-line}
 use Rattle.store.specs.inner.Steps.{upto, stepped, paired, inBank}
 use Rattle.store.specs.inner.Loads.{loaded, stored}
 use Rattle.store.proofs.Rows.{row-loads, row-stores}
-use Rattle.store.proofs.Steps.{stepped-none}
 
 -- ---- the i-th place of an access: its bank and its line
 
@@ -116,38 +115,64 @@ placed w c a s b e f =
       omega (arith, start-lt w c a),
     )
 
-row-places : (c a : ℕ) → upto (λ i. inBank (startOf Horizontal c a / 16) (bankOf c (startOf Horizontal c a) + i)) 16
-    ≡ places c (addresses Horizontal c a)
-unfolding inBank stepOf
-row-places c a =
-    places-by Horizontal c a (λ i. inBank (startOf Horizontal c a / 16) (bankOf c (startOf Horizontal c a) + i))
-    (λ i l. nth Horizontal c a refl i l ∙ omega arith)
+-- along a line: a row, or a word
+flat-row : (c : ℕ) → downOf Horizontal c ≡ 0
+unfolding stepOf
+flat-row c = refl
 
-module _ (c a s b : ℕ) (e : s ≡ startOf Horizontal c a) (f : b ≡ bankOf c s) where
-  line-lt-512 : s / 16 < 512
-  line-lt-512 = omega (arith, start-lt Horizontal c a)
+flat-word : (c : ℕ) → downOf Scalar c ≡ 0
+unfolding stepOf
+flat-word c = refl
 
-  bank-lt-16 : b < 16
+module _ (w : Way) (c a s b : ℕ) (e : s ≡ startOf w c a) (f : b ≡ bankOf c s) where
+  pub line-lt-512 : s / 16 < 512
+  line-lt-512 = omega (arith, start-lt w c a)
+
+  pub bank-lt-16 : b < 16
   bank-lt-16 = omega (arith, bank-lt c s)
 
+  along : downOf w c ≡ 0 → (i : ℕ) → i < countOf w
+      → at c (startOf w c a + i * stepOf w c) ≡ inBank (startOf w c a / 16) (bankOf c (startOf w c a) + i)
+  unfolding inBank
+  along flat i l =
+      let even : downOf w c % 2 ≡ 0 = rw flat refl in
+      let z : i * downOf w c ≡ 0 = rw flat (omega arith) in
+      nth w c a even i l ∙ (rw z (omega arith))
+
+  line-places : downOf w c ≡ 0 → upto (λ i. inBank (s / 16) (b + i)) (countOf w) ≡ places c (addresses w c a)
+  line-places flat =
+      rw (f, e) (places-by w c a (λ i. inBank (startOf w c a / 16) (bankOf c (startOf w c a) + i)) (along flat))
+
+module _ (c a s b : ℕ) (e : s ≡ startOf Scalar c a) (f : b ≡ bankOf c s) where
+  pub word-places : upto (λ i. inBank (s / 16) (b + i)) 4 ≡ places c (addresses Scalar c a)
+  word-places = line-places Scalar c a s b e f (flat-word c)
+
+-- a word's places as the code writes them
+pub four-places : (t b : ℕ) → b < 16
+    → (t + 512 * b) ∷ (t + (512 * b + 512) % 8192) ∷ (t + (512 * b + 1024) % 8192) ∷ (t + (512 * b + 1536) % 8192) ∷ []
+    ≡ upto (λ i. inBank t (b + i)) 4
+unfolding upto inBank
+four-places t b h =
+    let e0 : t + 512 * b ≡ 512 * ((b + 0) % 16) + t = omega arith in
+    let e1 : t + (512 * b + 512) % 8192 ≡ 512 * ((b + 1) % 16) + t = omega arith in
+    let e2 : t + (512 * b + 1024) % 8192 ≡ 512 * ((b + 2) % 16) + t = omega arith in
+    let e3 : t + (512 * b + 1536) % 8192 ≡ 512 * ((b + 3) % 16) + t = omega arith in
+    rw (e0, e1, e2, e3) refl
+
+module _ (c a s b : ℕ) (e : s ≡ startOf Horizontal c a) (f : b ≡ bankOf c s) where
   row-from : upto (λ i. inBank (s / 16) (b + i)) 16 ≡ places c (addresses Horizontal c a)
-  row-from = rw (f, e) (row-places c a)
+  row-from = line-places Horizontal c a s b e f (flat-row c)
 
   pub row-loaded : (ds w r : List ℕ) → w ≡ loaded ds (upto (inBank (s / 16)) 32) → r ≡ loaded w (upto (λ i. b + i) 16)
       → r ≡ loaded ds (places c (addresses Horizontal c a))
-  row-loaded ds w r p q = q ∙ (rw p (row-loads (s / 16) b ds bank-lt-16 ∙ ap (loaded ds) row-from))
+  row-loaded ds w r p q = q ∙ (rw p (row-loads (s / 16) b ds (bank-lt-16 Horizontal c a s b e f) ∙ ap (loaded ds) row-from))
 
   pub row-stored : (ds x w end : List ℕ) → length ds ≡ 8192 → w ≡ loaded x (upto (λ i. i % 16) 32)
       → end ≡ stored ds (upto (inBank (s / 16)) 16) (drop (16 - b) w) → end ≡ stored ds (places c (addresses Horizontal c a)) x
   row-stored ds x w end h p q =
-      q ∙ (rw p (row-stores (s / 16) b ds x line-lt-512 bank-lt-16 h ∙ ap (λ (ps : List ℕ). stored ds ps x) row-from))
-
-pub word-places : (c a p : ℕ) → p ≡ at c (startOf Scalar c a) → p < 8192
-    → p ∷ (p + 512) % 8192 ∷ (p + 1024) % 8192 ∷ (p + 1536) % 8192 ∷ [] ≡ places c (addresses Scalar c a)
-unfolding stepOf upto stepped
-word-places c a p e h =
-    ap (λ (x : ℕ). x ∷ (p + 512) % 8192 ∷ (p + 1024) % 8192 ∷ (p + 1536) % 8192 ∷ []) (stepped-none p 512 h)
-    ∙ (rw e (stepped-places Scalar c a refl))
+      let t = line-lt-512 Horizontal c a s b e f in
+      let k = bank-lt-16 Horizontal c a s b e f in
+      q ∙ (rw p (row-stores (s / 16) b ds x t k h ∙ ap (λ (ps : List ℕ). stored ds ps x) row-from))
 
 even-down : (c : ℕ) → (c ≡ 0 → ⊥) → strideOf c / 16 % 2 ≡ 0
 unfolding strideOf
@@ -161,13 +186,12 @@ pub column-places : (c a p s : ℕ) → (c ≡ 0 → ⊥) → p ≡ at c (startO
 unfolding stepOf
 column-places c a p s h e f = rw (f, e) (stepped-places Vertical c a (even-down c h))
 
--- the last arm of the decision by code
-pub step-rest : (c : ℕ) → 0 < c → (c ≡ 1 → ⊥) → (c ≡ 2 → ⊥) → 520 ≡ 512 + strideOf c / 16
+pub stride-le : (c : ℕ) → strideOf c ≤ 128
 unfolding strideOf
-step-rest zero h p q = absurd (omega arith)
-step-rest (suc zero) h p q = absurd (p refl)
-step-rest (suc (suc zero)) h p q = absurd (q refl)
-step-rest (suc (suc (suc c))) h p q = refl
+stride-le zero = omega arith
+stride-le (suc zero) = omega arith
+stride-le (suc (suc zero)) = omega arith
+stride-le (suc (suc (suc c))) = omega arith
 
 -- a column of code 0
 module _ (a : ℕ) where
@@ -194,3 +218,20 @@ module _ (c a p : ℕ) (z : c ≡ 0) (e : p ≡ at c (startOf Vertical c a)) whe
 
   pub paired-even : p % 2 ≡ 0
   paired-even = rw (e, z) (pairs-even a)
+
+-- ---- the head of a column: its bank is the low four bits, under every code
+
+low-four : (c a : ℕ) → (a % strideOf c % 16 + 0) % 16 ≡ a % 16
+unfolding strideOf
+low-four zero a = omega arith
+low-four (suc zero) a = omega arith
+low-four (suc (suc zero)) a = omega arith
+low-four (suc (suc (suc c))) a = omega arith
+
+head-bank : (c a : ℕ) → bankOf c (startOf Vertical c a) ≡ a % 16
+unfolding startOf
+head-bank zero a = first-bank a ∙ omega arith
+head-bank (suc c) a = first (suc c) _ (strideOf (suc c)) _ (column-bank c a 0) ∙ low-four (suc c) a
+
+pub head-placed : (c a s : ℕ) → s ≡ startOf Vertical c a → (a % 16 * 512 + s / 16 ≡ at c (startOf Vertical c a)) × (a % 16 * 512 + s / 16 < 8192)
+head-placed c a s e = placed Vertical c a s (a % 16) e (rw e (sym (head-bank c a)))

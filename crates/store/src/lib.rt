@@ -80,28 +80,22 @@ pub fn store_row(ds: &mut [u8], code: usize, addr: usize, bytes: [u8; 16])
     to_banks(ds, start / 16, &w, 16 - banks::bank(code, start));
 }
 
-// ---- columns and words: from the first place on by equal steps, round the store
+// ---- columns: from the first place on by equal steps, round the store
 
-// Where an access begins.
-fn first_place(way: Way, code: usize, addr: usize) -> usize
+// Where a column begins. Its banks begin at the low four bits of its address: there, what moves them on is a multiple of 16 under every code.
+fn head(code: usize, addr: usize) -> usize
     requires { ⌜ code < 4 ⌝ }
-    ensures { λ r. ⌜ (r ≡ at code (startOf way code addr)) × (r < 8192) ⌝ }
+    ensures { λ r. ⌜ (r ≡ at code (startOf Vertical code addr)) × (r < 8192) ⌝ }
 {
-    let start = banks::start(way, code, addr);
-    banks::bank(code, start) * 512 + start / 16
+    addr % 16 * 512 + banks::start(Way::Vertical, code, addr) / 16
 }
 
-// The step of a column of code 1 to 3: the next bank, and the stride's lines down. One number for each code, which the
-// compiler cannot split into a sum.
-fn step_of(code: usize) -> usize
-    requires { ⌜ 0 < code ⌝ }
+// To the next bank, and the stride's lines down: the step of codes 1 to 3.
+fn step(code: usize) -> usize
+    requires { ⌜ code < 4 ⌝ }
     ensures { λ r. ⌜ (r ≡ 512 + strideOf code / 16) × (r ≤ 520) ⌝ }
 {
-    match code {
-        1 => 514,
-        2 => 516,
-        _ => 520,
-    }
+    512 + banks::step(Way::Vertical, code) / 16
 }
 
 fn gather(ds: &[u8], first: usize, step: usize, out: &mut [u8])
@@ -134,11 +128,11 @@ pub fn load_column(ds: &[u8], code: usize, addr: usize, out: &mut [u8])
     requires { ⌜ (length (now ds) ≡ 8192) × (length (now out) ≡ 16) × (code < 4) ⌝ }
     ensures { λ _. ⌜ now (out .exit) ≡ loaded (now (ds .entry)) (places code (addresses Vertical code addr)) ⌝ }
 {
-    let first = first_place(Way::Vertical, code, addr);
+    let first = head(code, addr);
     if code == 0 {
         gather_pairs(ds, first, out);
     } else {
-        gather(ds, first, step_of(code), out);
+        gather(ds, first, step(code), out);
     }
 }
 
@@ -171,13 +165,15 @@ pub fn store_column(ds: &mut [u8], code: usize, addr: usize, bytes: &[u8])
     requires { ⌜ (length (now ds) ≡ 8192) × (length (now bytes) ≡ 16) × (code < 4) ⌝ }
     ensures { λ _. ⌜ now (ds .exit) ≡ stored (now (ds .entry)) (places code (addresses Vertical code addr)) (now (bytes .entry)) ⌝ }
 {
-    let first = first_place(Way::Vertical, code, addr);
+    let first = head(code, addr);
     if code == 0 {
         scatter_pairs(ds, first, bytes);
     } else {
-        scatter(ds, first, step_of(code), bytes);
+        scatter(ds, first, step(code), bytes);
     }
 }
+
+// ---- words: a line's byte in each of four banks, from one bank on round
 
 fn wide(x: u8) -> u32
     ensures { λ r. ⌜ (r ≡ x) × (r < 256) ⌝ }
@@ -192,28 +188,45 @@ pub fn joined(b0: u8, b1: u8, b2: u8, b3: u8) -> u32
     wide(b0) + (wide(b1) + (wide(b2) + wide(b3) * 256) * 256) * 256
 }
 
+// The line is added after the banks have come round, so that the compiler adds it once, to the store's address.
+fn word_from(ds: &[u8], line: usize, first: usize) -> u32
+    requires { ⌜ (length (now ds) ≡ 8192) × (line < 512) × (first < 16) ⌝ }
+    ensures { λ r. ⌜ r ≡ wordOf (loaded (now (ds .entry)) (upto (λ i. inBank line (first + i)) 4)) ⌝ }
+{
+    let at = 512 * first;
+    joined(
+        ds[line + at],
+        ds[line + (at + 512) % 8192],
+        ds[line + (at + 1024) % 8192],
+        ds[line + (at + 1536) % 8192],
+    )
+}
+
 pub fn load_word(ds: &[u8], code: usize, addr: usize) -> u32
     requires { ⌜ (length (now ds) ≡ 8192) × (code < 4) ⌝ }
     ensures { λ r. ⌜ r ≡ wordOf (loaded (now (ds .entry)) (places code (addresses Scalar code addr))) ⌝ }
 {
-    let at = first_place(Way::Scalar, code, addr);
-    joined(
-        ds[at],
-        ds[(at + 512) % 8192],
-        ds[(at + 1024) % 8192],
-        ds[(at + 1536) % 8192],
-    )
+    let start = banks::start(Way::Scalar, code, addr);
+    word_from(ds, start / 16, banks::bank(code, start))
+}
+
+fn word_to(ds: &mut [u8], line: usize, first: usize, word: u32)
+    requires { ⌜ (length (now ds) ≡ 8192) × (line < 512) × (first < 16) ⌝ }
+    ensures { λ _. ⌜ now (ds .exit) ≡ stored (now (ds .entry)) (upto (λ i. inBank line (first + i)) 4) (bytesOf word) ⌝ }
+{
+    let at = 512 * first;
+    ds[line + at] = (word % 256) as u8;
+    ds[line + (at + 512) % 8192] = (word / 256 % 256) as u8;
+    ds[line + (at + 1024) % 8192] = (word / 65536 % 256) as u8;
+    ds[line + (at + 1536) % 8192] = (word / 16777216 % 256) as u8;
 }
 
 pub fn store_word(ds: &mut [u8], code: usize, addr: usize, word: u32)
     requires { ⌜ (length (now ds) ≡ 8192) × (code < 4) ⌝ }
     ensures { λ _. ⌜ now (ds .exit) ≡ stored (now (ds .entry)) (places code (addresses Scalar code addr)) (bytesOf word) ⌝ }
 {
-    let at = first_place(Way::Scalar, code, addr);
-    ds[at] = (word % 256) as u8;
-    ds[(at + 512) % 8192] = (word / 256 % 256) as u8;
-    ds[(at + 1024) % 8192] = (word / 65536 % 256) as u8;
-    ds[(at + 1536) % 8192] = (word / 16777216 % 256) as u8;
+    let start = banks::start(Way::Scalar, code, addr);
+    word_to(ds, start / 16, banks::bank(code, start), word);
 }
 
 // The raw view: a bank's 512 bytes, as a part of the lent store.

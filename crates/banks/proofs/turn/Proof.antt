@@ -1,16 +1,20 @@
--- The decision by code, and the shift by it, are the definition's.
+-- The table's shift and mask give the definition's k.
 use borrow.Author.Needs.{needs}
-use Rattle.banks.specs.Bank.{turnOf}
-use Rattle.banks.proofs.Masks.{turn-shift}
+use Rattle.banks.proofs.Masks.{entry-lt, turn-table}
 use Rattle.banks.proofs.turn.Statement.{statement}
 use Rattle.banks.proofs.turn.Tie as tie
 
+shift-fits : tie.Need-cast-result
+shift-fits c = record { fits = entry-lt _ _ _ _ _ (search needs) _ (c .pre .0) }
+
+shr-result : tie.Need-shr-result
+shr-result c = entry-lt _ _ _ _ _ (search needs) _ (c .pre .0)
+
+mask-fits : tie.Need-cast-result-2
+mask-fits c = record { fits = entry-lt _ _ _ _ _ (search needs) _ (c .pre .0) }
+
 returns : tie.Need-returns
-unfolding turnOf
-returns c = rw (c .if1 .taken)
+returns c = turn-table _ _ (c .pre .0) (c .pre .1)
 
 pub turn-spec : {M : Type 1} → statement M
-turn-spec =
-    tie.close
-    (tie.spec (λ c. search needs) (λ c. search needs) returns
-    (λ c. turn-shift _ _ (c .before .pre .0) (c .if1 .left)))
+turn-spec = tie.close (tie.spec (λ c. search needs) shift-fits shr-result (λ c. search needs) mask-fits returns)

@@ -1,27 +1,29 @@
--- The four places are the word's.
-use mathlib.Core.Path.{ap}
-use mathlib.Core.List.{List}
-use Prim.Native.Nat.{ℕ}
+-- The line's places in the four banks are the word's.
 use native.Mathlib.Omega.{arith}
 use borrow.Author.Needs.{needs}
-use lib.ListN.{length-set}
-use Rattle.store.specs.inner.Loads.{stored, bytesOf}
-use Rattle.store.proofs.Access.{word-places}
+use Rattle.terms.specs.declared.Way.the-variants.{Scalar}
+use Rattle.store.proofs.Laws.{stored-along}
+use Rattle.store.proofs.Access.{start-lt, line-lt-512, bank-lt-16, word-places}
 use Rattle.store.proofs.store_word.Statement.{statement}
 use Rattle.store.proofs.store_word.Tie as tie
 
+bank-requires : tie.Need-bank-requires
+bank-requires c κs =
+    let a = c .before .before .before .args in
+    (search needs, omega (arith, start-lt Scalar (a .code) (a .addr)))
+
+word-to-requires : tie.Need-word-to-requires
+word-to-requires c κs =
+    let s = c .before .before .start .ensures in
+    (search needs, line-lt-512 Scalar _ _ _ _ s (c .bank .ensures), bank-lt-16 Scalar _ _ _ _ s (c .bank .ensures))
+
 returns : tie.Need-returns
-unfolding stored bytesOf
 returns c =
-    let a = c .before .before .args in
-    let e = c .first-place .ensures in
-    ap (λ (ps : List ℕ). stored (a .ds .now) ps (bytesOf (a .word))) (word-places _ _ _ (e .0) (e .1))
+    let t = c .before .before in
+    let b = t .before in
+    let s = b .before .before in
+    stored-along _ _ _ _ _ (t .word-to .ensures) (word-places _ _ _ _ (s .start .ensures) (b .bank .ensures))
 
 pub store-word-spec : {M : Type 1} → statement M
 store-word-spec =
-    tie.close
-    (tie.spec (λ c κs. search needs) (λ c. search needs) (λ c. search needs)
-    (λ c. search needs) (λ c. search needs) (λ c. simp length-set (omega arith))
-    (λ c. search needs) (λ c. search needs) (λ c. simp length-set (omega arith))
-    (λ c. search needs) (λ c. search needs) (λ c. simp length-set (omega arith))
-    (λ c. search needs) returns)
+    tie.close (tie.spec (λ c κs. search needs) bank-requires word-to-requires (λ c. search needs) returns)
