@@ -4,6 +4,7 @@ use mathlib.Core.List.{List, [], _∷_, map-map}
 use Prim.Native.Nat.{ℕ, zero, suc, _+_, _*_, _-_, _/_, _%_, _<_, _≤_}
 use native.Mathlib.Omega.{arith}
 use native.Mathlib.Nat.{add-zero, mul-add}
+use lib.Bits.{bitOr}
 use lib.ListN.{length, drop}
 use Rattle.banks.specs.Bank.{at, turnOf, bankOf}
 use Rattle.banks.specs.Line.{from, line, addresses, startOf, stepOf, countOf, strideOf, rowStart, wordStart, columnStart}
@@ -186,12 +187,13 @@ pub column-places : (c a p s : ℕ) → (c ≡ 0 → ⊥) → p ≡ at c (startO
 unfolding stepOf
 column-places c a p s h e f = rw (f, e) (stepped-places Vertical c a (even-down c h))
 
-pub stride-le : (c : ℕ) → strideOf c ≤ 128
+-- by OR: the lines are fewer than a bank's
+pub or-step : (c : ℕ) → (bitOr 512 (strideOf c / 16) ≡ 512 + strideOf c / 16) × (512 + strideOf c / 16 ≤ 520)
 unfolding strideOf
-stride-le zero = omega arith
-stride-le (suc zero) = omega arith
-stride-le (suc (suc zero)) = omega arith
-stride-le (suc (suc (suc c))) = omega arith
+or-step zero = (refl, omega arith)
+or-step (suc zero) = (refl, omega arith)
+or-step (suc (suc zero)) = (refl, omega arith)
+or-step (suc (suc (suc c))) = (refl, omega arith)
 
 -- a column of code 0
 module _ (a : ℕ) where

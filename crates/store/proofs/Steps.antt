@@ -1,8 +1,10 @@
 -- Laws of steps round the store.
-use mathlib.Core.Path.{_≡_}
+use mathlib.Core.Path.{_≡_, _∙_}
 use Prim.Native.Nat.{ℕ, _+_, _*_, _/_, _%_, _<_}
 use native.Mathlib.Omega.{arith}
-use native.Mathlib.Nat.{add-mul}
+use native.Mathlib.Nat.{add-mul, mod-lt}
+use lib.Bits.{bitAnd, and-mask}
+use lib.Dec.{lit<}
 use Rattle.store.specs.inner.Steps.{stepped, paired}
 
 module _ (first step : ℕ) where
@@ -15,6 +17,17 @@ module _ (first step : ℕ) where
   stepped-more i at e =
       let m : (i + 1) * step ≡ i * step + 1 * step = add-mul i 1 step in
       rw (e, m) (omega arith)
+
+  stepped-lt : (i : ℕ) → stepped first step i < 8192
+  unfolding stepped
+  stepped-lt i = mod-lt (first + i * step) (lit< tt)
+
+  -- by a mask, that of the store's last index
+  pub stepped-on : (i at last : ℕ) → last ≡ 8191 → at ≡ stepped first step i
+      → (bitAnd (at + step) last ≡ stepped first step (i + 1)) × (bitAnd (at + step) last < 8192)
+  stepped-on i at last l e =
+      let s : bitAnd (at + step) last ≡ stepped first step (i + 1) = rw l (and-mask (at + step) 13 ∙ stepped-more i at e) in
+      (s, rw s (stepped-lt (i + 1)))
 
 module _ (first : ℕ) where
   pub paired-low : (i : ℕ) → stepped first 514 i ≡ paired first (2 * i)

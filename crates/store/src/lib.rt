@@ -90,22 +90,24 @@ fn head(code: usize, addr: usize) -> usize
     addr % 16 * 512 + banks::start(Way::Vertical, code, addr) / 16
 }
 
-// To the next bank, and the stride's lines down: the step of codes 1 to 3.
+// To the next bank, and the stride's lines down: the step of codes 1 to 3. By OR, since a sum would be taken apart, and added in two steps for each byte.
 fn step(code: usize) -> usize
     requires { ⌜ code < 4 ⌝ }
     ensures { λ r. ⌜ (r ≡ 512 + strideOf code / 16) × (r ≤ 520) ⌝ }
 {
-    512 + banks::step(Way::Vertical, code) / 16
+    512 | banks::step(Way::Vertical, code) / 16
 }
 
+// Round the store by its last index, as a mask. (The number 8191 the compiler leaves out of the sum, and masks a copy of it for each byte.)
 fn gather(ds: &[u8], first: usize, step: usize, out: &mut [u8])
     requires { ⌜ (length (now ds) ≡ 8192) × (length (now out) ≡ 16) × (first < 8192) × (step < 8192) ⌝ }
     ensures { λ _. ⌜ now (out .exit) ≡ loaded (now (ds .entry)) (upto (stepped first step) 16) ⌝ }
 {
+    let last = ds.len() - 1;
     let mut at = first;
     for i in 0..16 {
         out[i] = ds[at];
-        at = (at + step) % 8192;
+        at = (at + step) & last;
     }
 }
 
@@ -140,10 +142,11 @@ fn scatter(ds: &mut [u8], first: usize, step: usize, bytes: &[u8])
     requires { ⌜ (length (now ds) ≡ 8192) × (length (now bytes) ≡ 16) × (first < 8192) × (step < 8192) ⌝ }
     ensures { λ _. ⌜ now (ds .exit) ≡ stored (now (ds .entry)) (upto (stepped first step) 16) (now (bytes .entry)) ⌝ }
 {
+    let last = ds.len() - 1;
     let mut at = first;
     for i in 0..16 {
         ds[at] = bytes[i];
-        at = (at + step) % 8192;
+        at = (at + step) & last;
     }
 }
 

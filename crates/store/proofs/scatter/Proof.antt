@@ -5,26 +5,28 @@ use Prim.Native.Nat.{_-_, _≤_, _<_}
 use mathlib.Core.Path.{_≡_, refl}
 use Rattle.store.specs.inner.Steps.{stepped}
 use Rattle.store.proofs.Loops.{Left, left-all, left-less, left-none}
-use Rattle.store.proofs.Steps.{stepped-none, stepped-more}
+use Rattle.store.proofs.Steps.{stepped-none, stepped-on}
 use Rattle.store.proofs.scatter.Statement.{statement}
 use Rattle.store.proofs.scatter.Tie as tie
 
 abbrev Inv : tie.InvT-loop
-Inv ds₀ first step bytes at₀ i₀ ds at i = (i ≤ 16) × (at ≡ stepped first step i) × (at < 8192) × Left ds₀ bytes (stepped first step) i ds
+Inv ds₀ first step bytes last at₀ i₀ ds at i =
+    (i ≤ 16) × (at ≡ stepped first step i) × (at < 8192) × Left ds₀ bytes (stepped first step) i ds × (last ≡ 8191)
 
 abbrev μ : tie.MeasureT-loop
-μ ds₀ first step bytes at₀ i₀ ds at i = 16 - i
+μ ds₀ first step bytes last at₀ i₀ ds at i = 16 - i
 
 pub scatter-spec : {M : Type 1} → statement M
 scatter-spec =
     tie.close
-    (tie.spec Inv μ (λ c. (omega arith, stepped-none _ _ (search needs), search needs, left-all _ _ _ (search needs)))
+    (tie.spec Inv μ (λ c. search needs) (λ c. (omega arith, stepped-none _ _ (search needs), search needs, left-all _ _ _ (search needs), omega arith))
     (λ c. search needs) (λ c. search needs) (λ c. search needs) (λ c. search needs) (λ c. search needs)
-    (λ c. let t = c .before in let l = t .before .loop in (
+    (λ c. let t = c .before in let l = t .before .loop in let n = stepped-on _ _ _ (l .at) _ (l .inv .4) (l .inv .1) in (
       omega arith,
-      stepped-more _ _ _ (l .at) (l .inv .1),
-      omega arith,
+      n .0,
+      n .1,
       left-less (l .at) _ (l .inv .3) (t .loop-test .taken) (l .inv .1) refl,
+      l .inv .4,
     ))
     (λ c. search needs)
     (λ c. left-none (c .before .loop .inv .3) (c .loop-test .left)))
