@@ -7,7 +7,8 @@ ghost use Rattle.banks.specs.Line.{startOf, stepOf};
 ghost use Rattle.banks.specs.inner.Access.{cellsOf};
 use terms::Way;
 
-// k of document 01, by stride code: how far an address is shifted to the right, and what is kept of it.
+// k of document 01, by stride code: the address shifted to the right, then masked; of its thirteen bits only code 0's mask drops any. (Two arrays of four bytes:
+// each is put together by one store.)
 const SHIFT: [u8; 4] = [5, 5, 6, 7];
 
 const MASK: [u8; 4] = [0x07, 0xff, 0x7f, 0x3f];

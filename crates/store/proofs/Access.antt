@@ -3,7 +3,7 @@ use mathlib.Core.Path.{_≡_, refl, sym, ap, ap₂, _∙_}
 use mathlib.Core.List.{List, [], _∷_, map-map}
 use Prim.Native.Nat.{ℕ, zero, suc, _+_, _*_, _-_, _/_, _%_, _<_, _≤_}
 use native.Mathlib.Omega.{arith}
-use native.Mathlib.Nat.{add-zero, mul-add}
+use native.Mathlib.Nat.{mul-add}
 use lib.Bits.{bitOr}
 use lib.ListN.{length, drop}
 use Rattle.banks.specs.Bank.{at, turnOf, bankOf}
@@ -33,11 +33,20 @@ row-round c b i h = row-bank c b i h ∙ spin (b % 16 + turnOf c b) i
 first : (c x s y : ℕ) → bankOf c (x + 0 * s) ≡ y → bankOf c x ≡ y
 first c x s y e = let z : x + 0 * s ≡ x = omega arith in rw z at e
 
+low-four : (c a : ℕ) → a % strideOf c % 16 ≡ a % 16
+unfolding strideOf
+low-four zero a = omega arith
+low-four (suc zero) a = omega arith
+low-four (suc (suc zero)) a = omega arith
+low-four (suc (suc (suc c))) a = omega arith
+
+-- under every code a column begins in the bank of its address's low four bits
+head-bank : (c a : ℕ) → bankOf c (columnStart c a) ≡ a % 16
+head-bank zero a = first 0 _ (strideOf 0) _ (column0-bank a 0 (omega arith)) ∙ omega arith
+head-bank (suc c) a = first (suc c) _ (strideOf (suc c)) _ (column-bank c a 0) ∙ (rw (low-four (suc c) a) (omega arith))
+
 column-round : (c a i : ℕ) → bankOf (suc c) (columnStart (suc c) a + i * strideOf (suc c)) ≡ (bankOf (suc c) (columnStart (suc c) a) + i) % 16
-column-round c a i =
-    let l = a % strideOf (suc c) % 16 in
-    let e : bankOf (suc c) (columnStart (suc c) a) ≡ (l + 0) % 16 = first (suc c) _ (strideOf (suc c)) _ (column-bank c a 0) in
-    rw e (column-bank c a i ∙ spin l i ∙ ap (λ (n : ℕ). (n % 16 + i) % 16) (sym (add-zero l)))
+column-round c a i = rw (head-bank (suc c) a, ← low-four (suc c) a) (column-bank c a i)
 
 -- the lines that an access goes down from byte to byte; it is odd, one, only in a column of code 0, whose banks come twice each
 abbrev downOf : Way → ℕ → ℕ
@@ -75,7 +84,7 @@ start-lt Scalar c a = omega (arith, way-lt Scalar c a 0 (omega arith))
 steps : (b t i x : ℕ) → t + x < 512 → (b + i) % 16 * 512 + (t + x) ≡ (b * 512 + t + (i * 512 + x)) % 8192
 steps b t i x h = omega arith
 
-pairs : (b t i : ℕ) → t + i * 1 < 512 → (b + i / 2) % 16 * 512 + (t + i * 1) ≡ ((b + 0) % 16 * 512 + t + i / 2 * 514) % 8192 + i % 2
+pairs : (b t i : ℕ) → t + i * 1 < 512 → (b + i / 2) % 16 * 512 + (t + i * 1) ≡ (b * 512 + t + i / 2 * 514) % 8192 + i % 2
 pairs b t i h = omega arith
 
 module _ (w : Way) (c a : ℕ) where
@@ -108,45 +117,24 @@ module _ (w : Way) (c a : ℕ) where
 
 -- ---- what the functions go over
 
-pub placed : (w : Way) (c a s b : ℕ) → s ≡ startOf w c a → b ≡ bankOf c s
-    → (b * 512 + s / 16 ≡ at c (startOf w c a)) × (b * 512 + s / 16 < 8192)
-placed w c a s b e f =
-    let h : bankOf c s < 16 = bank-lt c s in (
-      rw (f, e) (sym (first-at w c a)),
-      omega (arith, start-lt w c a),
-    )
-
 -- along a line: a row, or a word
-flat-row : (c : ℕ) → downOf Horizontal c ≡ 0
-unfolding stepOf
-flat-row c = refl
-
-flat-word : (c : ℕ) → downOf Scalar c ≡ 0
-unfolding stepOf
-flat-word c = refl
-
-module _ (w : Way) (c a s b : ℕ) (e : s ≡ startOf w c a) (f : b ≡ bankOf c s) where
-  pub line-lt-512 : s / 16 < 512
-  line-lt-512 = omega (arith, start-lt w c a)
-
-  pub bank-lt-16 : b < 16
-  bank-lt-16 = omega (arith, bank-lt c s)
-
-  along : downOf w c ≡ 0 → (i : ℕ) → i < countOf w
+module _ (w : Way) (c a : ℕ) (flat : downOf w c ≡ 0) where
+  along : (i : ℕ) → i < countOf w
       → at c (startOf w c a + i * stepOf w c) ≡ inBank (startOf w c a / 16) (bankOf c (startOf w c a) + i)
   unfolding inBank
-  along flat i l =
+  along i l =
       let even : downOf w c % 2 ≡ 0 = rw flat refl in
       let z : i * downOf w c ≡ 0 = rw flat (omega arith) in
       nth w c a even i l ∙ (rw z (omega arith))
 
-  line-places : downOf w c ≡ 0 → upto (λ i. inBank (s / 16) (b + i)) (countOf w) ≡ places c (addresses w c a)
-  line-places flat =
-      rw (f, e) (places-by w c a (λ i. inBank (startOf w c a / 16) (bankOf c (startOf w c a) + i)) (along flat))
+  line-places : (s b : ℕ) → s ≡ startOf w c a → b ≡ bankOf c s
+      → upto (λ i. inBank (s / 16) (b + i)) (countOf w) ≡ places c (addresses w c a)
+  line-places s b e f = rw (f, e) (places-by w c a (λ i. inBank (startOf w c a / 16) (bankOf c (startOf w c a) + i)) along)
 
-module _ (c a s b : ℕ) (e : s ≡ startOf Scalar c a) (f : b ≡ bankOf c s) where
-  pub word-places : upto (λ i. inBank (s / 16) (b + i)) 4 ≡ places c (addresses Scalar c a)
-  word-places = line-places Scalar c a s b e f (flat-word c)
+pub word-places : (c a s b : ℕ) → s ≡ startOf Scalar c a → b ≡ bankOf c s
+    → upto (λ i. inBank (s / 16) (b + i)) 4 ≡ places c (addresses Scalar c a)
+unfolding stepOf
+word-places c a = line-places Scalar c a refl
 
 -- a word's places as the code writes them
 pub four-places : (t b : ℕ) → b < 16
@@ -161,19 +149,24 @@ four-places t b h =
     rw (e0, e1, e2, e3) refl
 
 module _ (c a s b : ℕ) (e : s ≡ startOf Horizontal c a) (f : b ≡ bankOf c s) where
+  line-lt-512 : s / 16 < 512
+  line-lt-512 = omega (arith, start-lt Horizontal c a)
+
+  bank-lt-16 : b < 16
+  bank-lt-16 = omega (arith, bank-lt c s)
+
   row-from : upto (λ i. inBank (s / 16) (b + i)) 16 ≡ places c (addresses Horizontal c a)
-  row-from = line-places Horizontal c a s b e f (flat-row c)
+  unfolding stepOf
+  row-from = line-places Horizontal c a refl s b e f
 
   pub row-loaded : (ds w r : List ℕ) → w ≡ loaded ds (upto (inBank (s / 16)) 32) → r ≡ loaded w (upto (λ i. b + i) 16)
       → r ≡ loaded ds (places c (addresses Horizontal c a))
-  row-loaded ds w r p q = q ∙ (rw p (row-loads (s / 16) b ds (bank-lt-16 Horizontal c a s b e f) ∙ ap (loaded ds) row-from))
+  row-loaded ds w r p q = q ∙ (rw p (row-loads (s / 16) b ds bank-lt-16 ∙ ap (loaded ds) row-from))
 
   pub row-stored : (ds x w end : List ℕ) → length ds ≡ 8192 → w ≡ loaded x (upto (λ i. i % 16) 32)
       → end ≡ stored ds (upto (inBank (s / 16)) 16) (drop (16 - b) w) → end ≡ stored ds (places c (addresses Horizontal c a)) x
   row-stored ds x w end h p q =
-      let t = line-lt-512 Horizontal c a s b e f in
-      let k = bank-lt-16 Horizontal c a s b e f in
-      q ∙ (rw p (row-stores (s / 16) b ds x t k h ∙ ap (λ (ps : List ℕ). stored ds ps x) row-from))
+      q ∙ (rw p (row-stores (s / 16) b ds x line-lt-512 bank-lt-16 h ∙ ap (λ (ps : List ℕ). stored ds ps x) row-from))
 
 even-down : (c : ℕ) → (c ≡ 0 → ⊥) → strideOf c / 16 % 2 ≡ 0
 unfolding strideOf
@@ -187,20 +180,16 @@ pub column-places : (c a p s : ℕ) → (c ≡ 0 → ⊥) → p ≡ at c (startO
 unfolding stepOf
 column-places c a p s h e f = rw (f, e) (stepped-places Vertical c a (even-down c h))
 
--- by OR: the lines are fewer than a bank's
-pub or-step : (c : ℕ) → (bitOr 512 (strideOf c / 16) ≡ 512 + strideOf c / 16) × (512 + strideOf c / 16 ≤ 520)
+-- by OR: the stride's lines are fewer than a bank's 512
+pub or-step : (c s : ℕ) → s ≡ strideOf c → (bitOr 512 (s / 16) ≡ 512 + strideOf c / 16) × (bitOr 512 (s / 16) ≤ 520)
 unfolding strideOf
-or-step zero = (refl, omega arith)
-or-step (suc zero) = (refl, omega arith)
-or-step (suc (suc zero)) = (refl, omega arith)
-or-step (suc (suc (suc c))) = (refl, omega arith)
+or-step zero s e = rw e (refl, omega arith)
+or-step (suc zero) s e = rw e (refl, omega arith)
+or-step (suc (suc zero)) s e = rw e (refl, omega arith)
+or-step (suc (suc (suc c))) s e = rw e (refl, omega arith)
 
 -- a column of code 0
 module _ (a : ℕ) where
-  first-bank : bankOf 0 (startOf Vertical 0 a) ≡ (a % 16 + 0) % 16
-  unfolding startOf
-  first-bank = first 0 _ (strideOf 0) _ (column0-bank a 0 (omega arith))
-
   pairs-places : upto (paired (at 0 (startOf Vertical 0 a))) 16 ≡ places 0 (addresses Vertical 0 a)
   unfolding startOf stepOf strideOf paired stepped
   pairs-places =
@@ -208,7 +197,7 @@ module _ (a : ℕ) where
       (λ i l.
       at-line 0 _ (way-lt Vertical 0 a i l)
       ∙ ap₂ (λ (x y : ℕ). x * 512 + y) (column0-bank a i l) (lines Vertical 0 a i l)
-      ∙ (rw (first-at Vertical 0 a, first-bank) (pairs (a % 16) (columnStart 0 a / 16) i (line-lt Vertical 0 a i l))))
+      ∙ (rw (first-at Vertical 0 a, head-bank 0 a) (pairs (a % 16) (columnStart 0 a / 16) i (line-lt Vertical 0 a i l))))
 
   pairs-even : at 0 (startOf Vertical 0 a) % 2 ≡ 0
   unfolding startOf columnStart strideOf
@@ -221,19 +210,7 @@ module _ (c a p : ℕ) (z : c ≡ 0) (e : p ≡ at c (startOf Vertical c a)) whe
   pub paired-even : p % 2 ≡ 0
   paired-even = rw (e, z) (pairs-even a)
 
--- ---- the head of a column: its bank is the low four bits, under every code
-
-low-four : (c a : ℕ) → (a % strideOf c % 16 + 0) % 16 ≡ a % 16
-unfolding strideOf
-low-four zero a = omega arith
-low-four (suc zero) a = omega arith
-low-four (suc (suc zero)) a = omega arith
-low-four (suc (suc (suc c))) a = omega arith
-
-head-bank : (c a : ℕ) → bankOf c (startOf Vertical c a) ≡ a % 16
-unfolding startOf
-head-bank zero a = first-bank a ∙ omega arith
-head-bank (suc c) a = first (suc c) _ (strideOf (suc c)) _ (column-bank c a 0) ∙ low-four (suc c) a
-
+-- the head of a column
 pub head-placed : (c a s : ℕ) → s ≡ startOf Vertical c a → (a % 16 * 512 + s / 16 ≡ at c (startOf Vertical c a)) × (a % 16 * 512 + s / 16 < 8192)
-head-placed c a s e = placed Vertical c a s (a % 16) e (rw e (sym (head-bank c a)))
+unfolding startOf
+head-placed c a s e = (rw e (ap (λ (b : ℕ). b * 512 + columnStart c a / 16) (sym (head-bank c a)) ∙ sym (first-at Vertical c a)), omega (arith, start-lt Vertical c a))

@@ -2,9 +2,8 @@
 use mathlib.Core.Path.{_≡_, _∙_}
 use Prim.Native.Nat.{ℕ, _+_, _*_, _/_, _%_, _<_}
 use native.Mathlib.Omega.{arith}
-use native.Mathlib.Nat.{add-mul, mod-lt}
+use native.Mathlib.Nat.{add-mul}
 use lib.Bits.{bitAnd, and-mask}
-use lib.Dec.{lit<}
 use Rattle.store.specs.inner.Steps.{stepped, paired}
 
 module _ (first step : ℕ) where
@@ -20,7 +19,7 @@ module _ (first step : ℕ) where
 
   stepped-lt : (i : ℕ) → stepped first step i < 8192
   unfolding stepped
-  stepped-lt i = mod-lt (first + i * step) (lit< tt)
+  stepped-lt i = omega arith
 
   -- by a mask, that of the store's last index
   pub stepped-on : (i at last : ℕ) → last ≡ 8191 → at ≡ stepped first step i

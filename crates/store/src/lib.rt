@@ -82,8 +82,8 @@ pub fn store_row(ds: &mut [u8], code: usize, addr: usize, bytes: [u8; 16])
 
 // ---- columns: from the first place on by equal steps, round the store
 
-// Where a column begins. Its banks begin at the low four bits of its address: there, what moves them on is a multiple of 16 under every code.
-fn head(code: usize, addr: usize) -> usize
+// The first place of a column. Its bank is the low four bits of the address: k of the column's first address is a multiple of 16 under every code.
+fn column_head(code: usize, addr: usize) -> usize
     requires { ⌜ code < 4 ⌝ }
     ensures { λ r. ⌜ (r ≡ at code (startOf Vertical code addr)) × (r < 8192) ⌝ }
 {
@@ -91,14 +91,15 @@ fn head(code: usize, addr: usize) -> usize
 }
 
 // To the next bank, and the stride's lines down: the step of codes 1 to 3. By OR, since a sum would be taken apart, and added in two steps for each byte.
-fn step(code: usize) -> usize
+fn column_step(code: usize) -> usize
     requires { ⌜ code < 4 ⌝ }
     ensures { λ r. ⌜ (r ≡ 512 + strideOf code / 16) × (r ≤ 520) ⌝ }
 {
     512 | banks::step(Way::Vertical, code) / 16
 }
 
-// Round the store by its last index, as a mask. (The number 8191 the compiler leaves out of the sum, and masks a copy of it for each byte.)
+// Round the store by its last index, as a mask: with the literal 8191 the compiler would keep the sum unmasked, and mask a copy of it for each byte.
+// (Where the step is a constant, as in pairs, that costs nothing.)
 fn gather(ds: &[u8], first: usize, step: usize, out: &mut [u8])
     requires { ⌜ (length (now ds) ≡ 8192) × (length (now out) ≡ 16) × (first < 8192) × (step < 8192) ⌝ }
     ensures { λ _. ⌜ now (out .exit) ≡ loaded (now (ds .entry)) (upto (stepped first step) 16) ⌝ }
@@ -130,11 +131,11 @@ pub fn load_column(ds: &[u8], code: usize, addr: usize, out: &mut [u8])
     requires { ⌜ (length (now ds) ≡ 8192) × (length (now out) ≡ 16) × (code < 4) ⌝ }
     ensures { λ _. ⌜ now (out .exit) ≡ loaded (now (ds .entry)) (places code (addresses Vertical code addr)) ⌝ }
 {
-    let first = head(code, addr);
+    let first = column_head(code, addr);
     if code == 0 {
         gather_pairs(ds, first, out);
     } else {
-        gather(ds, first, step(code), out);
+        gather(ds, first, column_step(code), out);
     }
 }
 
@@ -168,11 +169,11 @@ pub fn store_column(ds: &mut [u8], code: usize, addr: usize, bytes: &[u8])
     requires { ⌜ (length (now ds) ≡ 8192) × (length (now bytes) ≡ 16) × (code < 4) ⌝ }
     ensures { λ _. ⌜ now (ds .exit) ≡ stored (now (ds .entry)) (places code (addresses Vertical code addr)) (now (bytes .entry)) ⌝ }
 {
-    let first = head(code, addr);
+    let first = column_head(code, addr);
     if code == 0 {
         scatter_pairs(ds, first, bytes);
     } else {
-        scatter(ds, first, step(code), bytes);
+        scatter(ds, first, column_step(code), bytes);
     }
 }
 

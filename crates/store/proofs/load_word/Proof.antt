@@ -4,9 +4,10 @@ use mathlib.Core.List.{List}
 use Prim.Native.Nat.{ℕ}
 use native.Mathlib.Omega.{arith}
 use borrow.Author.Needs.{needs}
+use Rattle.banks.proofs.OneToOne.{bank-lt}
 use Rattle.terms.specs.declared.Way.the-variants.{Scalar}
 use Rattle.store.specs.inner.Loads.{loaded, wordOf}
-use Rattle.store.proofs.Access.{start-lt, line-lt-512, bank-lt-16, word-places}
+use Rattle.store.proofs.Access.{start-lt, word-places}
 use Rattle.store.proofs.load_word.Statement.{statement}
 use Rattle.store.proofs.load_word.Tie as tie
 
@@ -17,8 +18,9 @@ bank-requires c κs =
 
 word-from-requires : tie.Need-word-from-requires
 word-from-requires c κs =
-    let s = c .before .start .ensures in
-    (search needs, line-lt-512 Scalar _ _ _ _ s (c .bank .ensures), bank-lt-16 Scalar _ _ _ _ s (c .bank .ensures))
+    let s = c .before in
+    let a = s .before .before .args in
+    (search needs, omega (arith, start-lt Scalar (a .code) (a .addr)), omega (arith, bank-lt (a .code) (s .start .result)))
 
 returns : tie.Need-returns
 returns c =

@@ -1,9 +1,10 @@
 -- The line's places in the four banks are the word's.
 use native.Mathlib.Omega.{arith}
 use borrow.Author.Needs.{needs}
+use Rattle.banks.proofs.OneToOne.{bank-lt}
 use Rattle.terms.specs.declared.Way.the-variants.{Scalar}
 use Rattle.store.proofs.Laws.{stored-along}
-use Rattle.store.proofs.Access.{start-lt, line-lt-512, bank-lt-16, word-places}
+use Rattle.store.proofs.Access.{start-lt, word-places}
 use Rattle.store.proofs.store_word.Statement.{statement}
 use Rattle.store.proofs.store_word.Tie as tie
 
@@ -14,8 +15,9 @@ bank-requires c κs =
 
 word-to-requires : tie.Need-word-to-requires
 word-to-requires c κs =
-    let s = c .before .before .start .ensures in
-    (search needs, line-lt-512 Scalar _ _ _ _ s (c .bank .ensures), bank-lt-16 Scalar _ _ _ _ s (c .bank .ensures))
+    let s = c .before .before in
+    let a = s .before .before .args in
+    (search needs, omega (arith, start-lt Scalar (a .code) (a .addr)), omega (arith, bank-lt (a .code) (s .start .result)))
 
 returns : tie.Need-returns
 returns c =
