@@ -73,10 +73,21 @@ lines Horizontal c a i h = omega arith
 lines Vertical c a i h = column-lines c (columnStart c a) i
 lines Scalar c a i h = omega arith
 
-pub start-lt : (w : Way) (c a : ℕ) → startOf w c a < 8192
+start-lt : (w : Way) (c a : ℕ) → startOf w c a < 8192
 start-lt Horizontal c a = omega (arith, way-lt Horizontal c a 0 (omega arith))
 start-lt Vertical c a = omega (arith, way-lt Vertical c a 0 (omega arith))
 start-lt Scalar c a = omega (arith, way-lt Scalar c a 0 (omega arith))
+
+-- an access begins within the store, on one of a bank's 512 lines, in one of the sixteen banks
+module _ (w : Way) (c a s : ℕ) (e : s ≡ startOf w c a) where
+  pub start-within : s < 8192
+  start-within = rw e (start-lt w c a)
+
+  pub line-within : s / 16 < 512
+  line-within = omega (arith, start-within)
+
+pub bank-within : (c s b : ℕ) → b ≡ bankOf c s → b < 16
+bank-within c s b f = rw f (bank-lt c s)
 
 -- ---- the lists
 
@@ -149,24 +160,18 @@ four-places t b h =
     rw (e0, e1, e2, e3) refl
 
 module _ (c a s b : ℕ) (e : s ≡ startOf Horizontal c a) (f : b ≡ bankOf c s) where
-  line-lt-512 : s / 16 < 512
-  line-lt-512 = omega (arith, start-lt Horizontal c a)
-
-  bank-lt-16 : b < 16
-  bank-lt-16 = omega (arith, bank-lt c s)
-
   row-from : upto (λ i. inBank (s / 16) (b + i)) 16 ≡ places c (addresses Horizontal c a)
   unfolding stepOf
   row-from = line-places Horizontal c a refl s b e f
 
   pub row-loaded : (ds w r : List ℕ) → w ≡ loaded ds (upto (inBank (s / 16)) 32) → r ≡ loaded w (upto (λ i. b + i) 16)
       → r ≡ loaded ds (places c (addresses Horizontal c a))
-  row-loaded ds w r p q = q ∙ (rw p (row-loads (s / 16) b ds bank-lt-16 ∙ ap (loaded ds) row-from))
+  row-loaded ds w r p q = q ∙ (rw p (row-loads (s / 16) b ds (bank-within c s b f) ∙ ap (loaded ds) row-from))
 
   pub row-stored : (ds x w end : List ℕ) → length ds ≡ 8192 → w ≡ loaded x (upto (λ i. i % 16) 32)
       → end ≡ stored ds (upto (inBank (s / 16)) 16) (drop (16 - b) w) → end ≡ stored ds (places c (addresses Horizontal c a)) x
   row-stored ds x w end h p q =
-      q ∙ (rw p (row-stores (s / 16) b ds x line-lt-512 bank-lt-16 h ∙ ap (λ (ps : List ℕ). stored ds ps x) row-from))
+      q ∙ (rw p (row-stores (s / 16) b ds x (line-within Horizontal c a s e) (bank-within c s b f) h ∙ ap (λ (ps : List ℕ). stored ds ps x) row-from))
 
 even-down : (c : ℕ) → (c ≡ 0 → ⊥) → strideOf c / 16 % 2 ≡ 0
 unfolding strideOf

@@ -21,12 +21,19 @@ module _ (first step : ℕ) where
   unfolding stepped
   stepped-lt i = omega arith
 
-  -- by a mask, that of the store's last index
-  pub stepped-on : (i at last : ℕ) → last ≡ 8191 → at ≡ stepped first step i
-      → (bitAnd (at + step) last ≡ stepped first step (i + 1)) × (bitAnd (at + step) last < 8192)
-  stepped-on i at last l e =
-      let s : bitAnd (at + step) last ≡ stepped first step (i + 1) = rw l (and-mask (at + step) 13 ∙ stepped-more i at e) in
-      (s, rw s (stepped-lt (i + 1)))
+-- what a loop by equal steps keeps, with the place at hand and the store's last index as a mask: i of them are behind it
+pub record Going (first step last i at : ℕ) : Type 0 where
+  pub placed : at ≡ stepped first step i
+  pub within : at < 8192
+  pub masks : last ≡ 8191
+
+pub going : (first step last : ℕ) → first < 8192 → last ≡ 8191 → Going first step last 0 first
+going first step last h e = record { placed = stepped-none first step h; within = h; masks = e }
+
+pub going-on : {first step last i at : ℕ} → Going first step last i at → Going first step last (i + 1) (bitAnd (at + step) last)
+going-on {first} {step} {last} {i} {at} g =
+    let p : bitAnd (at + step) last ≡ stepped first step (i + 1) = rw (g .masks) (and-mask (at + step) 13 ∙ stepped-more first step i at (g .placed)) in
+    record { placed = p; within = rw p (stepped-lt first step (i + 1)); masks = g .masks }
 
 module _ (first : ℕ) where
   pub paired-low : (i : ℕ) → stepped first 514 i ≡ paired first (2 * i)

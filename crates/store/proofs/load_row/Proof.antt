@@ -1,27 +1,20 @@
 -- The part of the doubled line is the row.
-use native.Mathlib.Omega.{arith}
 use mathlib.Core.Path.{refl}
 use borrow.Author.Needs.{needs}
-use Rattle.banks.proofs.OneToOne.{bank-lt}
-use Rattle.store.proofs.Access.{start-lt, row-loaded}
+use native.Mathlib.Nat.{le-of-lt}
+use Rattle.store.proofs.Access.{start-within, line-within, bank-within, row-loaded}
 use Rattle.terms.specs.declared.Way.the-variants.{Horizontal}
 use Rattle.store.proofs.load_row.Statement.{statement}
 use Rattle.store.proofs.load_row.Tie as tie
 
 banked-requires : tie.Need-banked-requires
-banked-requires c κs =
-    let a = c .before .before .before .args in
-    (search needs, omega (arith, start-lt Horizontal (a .code) (a .addr)), refl)
+banked-requires c κs = (search needs, line-within Horizontal _ _ _ (c .before .start .ensures), refl)
 
 bank-requires : tie.Need-bank-requires
-bank-requires c κs =
-    let a = c .before .before .before .before .before .args in
-    (search needs, omega (arith, start-lt Horizontal (a .code) (a .addr)))
+bank-requires c κs = (search needs, start-within Horizontal _ _ _ (c .before .before .before .start .ensures))
 
 part-requires : tie.Need-part-requires
-part-requires c κs =
-    let s = c .before .before .before .before in
-    omega (arith, bank-lt (s .before .before .args .code) (s .start .result))
+part-requires c κs = le-of-lt (bank-within _ _ _ (c .bank .ensures))
 
 pub load-row-spec : {M : Type 1} → statement M
 load-row-spec =

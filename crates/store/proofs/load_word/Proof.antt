@@ -2,25 +2,12 @@
 use mathlib.Core.Path.{ap, _∙_}
 use mathlib.Core.List.{List}
 use Prim.Native.Nat.{ℕ}
-use native.Mathlib.Omega.{arith}
 use borrow.Author.Needs.{needs}
-use Rattle.banks.proofs.OneToOne.{bank-lt}
 use Rattle.terms.specs.declared.Way.the-variants.{Scalar}
 use Rattle.store.specs.inner.Loads.{loaded, wordOf}
-use Rattle.store.proofs.Access.{start-lt, word-places}
+use Rattle.store.proofs.Access.{start-within, line-within, bank-within, word-places}
 use Rattle.store.proofs.load_word.Statement.{statement}
 use Rattle.store.proofs.load_word.Tie as tie
-
-bank-requires : tie.Need-bank-requires
-bank-requires c κs =
-    let a = c .before .before .args in
-    (search needs, omega (arith, start-lt Scalar (a .code) (a .addr)))
-
-word-from-requires : tie.Need-word-from-requires
-word-from-requires c κs =
-    let s = c .before in
-    let a = s .before .before .args in
-    (search needs, omega (arith, start-lt Scalar (a .code) (a .addr)), omega (arith, bank-lt (a .code) (s .start .result)))
 
 returns : tie.Need-returns
 returns c =
@@ -31,4 +18,8 @@ returns c =
     ∙ ap (λ (ps : List ℕ). wordOf (loaded ds ps)) (word-places _ _ _ _ (s .start .ensures) (b .bank .ensures))
 
 pub load-word-spec : {M : Type 1} → statement M
-load-word-spec = tie.close (tie.spec (λ c κs. search needs) bank-requires word-from-requires returns)
+load-word-spec =
+    tie.close
+    (tie.spec (λ c κs. search needs) (λ c κs. (search needs, start-within Scalar _ _ _ (c .start .ensures)))
+    (λ c κs. (search needs, line-within Scalar _ _ _ (c .before .start .ensures), bank-within _ _ _ (c .bank .ensures)))
+    returns)

@@ -1,17 +1,16 @@
 -- The loop stores the column from its start, with the place at hand.
 use native.Mathlib.Omega.{arith}
 use borrow.Author.Needs.{needs}
-use Prim.Native.Nat.{_-_, _≤_, _<_}
-use mathlib.Core.Path.{_≡_, refl}
+use Prim.Native.Nat.{_-_, _≤_}
+use mathlib.Core.Path.{refl}
 use Rattle.store.specs.inner.Steps.{stepped}
 use Rattle.store.proofs.Loops.{Left, left-all, left-less, left-none}
-use Rattle.store.proofs.Steps.{stepped-none, stepped-on}
+use Rattle.store.proofs.Steps.{Going, going, going-on}
 use Rattle.store.proofs.scatter.Statement.{statement}
 use Rattle.store.proofs.scatter.Tie as tie
 
 abbrev Inv : tie.InvT-loop
-Inv ds₀ first step bytes last at₀ i₀ ds at i =
-    (i ≤ 16) × (at ≡ stepped first step i) × (at < 8192) × Left ds₀ bytes (stepped first step) i ds × (last ≡ 8191)
+Inv ds₀ first step bytes last at₀ i₀ ds at i = (i ≤ 16) × Going first step last i at × Left ds₀ bytes (stepped first step) i ds
 
 abbrev μ : tie.MeasureT-loop
 μ ds₀ first step bytes last at₀ i₀ ds at i = 16 - i
@@ -19,14 +18,9 @@ abbrev μ : tie.MeasureT-loop
 pub scatter-spec : {M : Type 1} → statement M
 scatter-spec =
     tie.close
-    (tie.spec Inv μ (λ c. search needs) (λ c. (omega arith, stepped-none _ _ (search needs), search needs, left-all _ _ _ (search needs), omega arith))
+    (tie.spec Inv μ (λ c. search needs) (λ c. (omega arith, going _ _ _ (search needs) (omega arith), left-all _ _ _ (search needs)))
     (λ c. search needs) (λ c. search needs) (λ c. search needs) (λ c. search needs) (λ c. search needs)
-    (λ c. let t = c .before in let l = t .before .loop in let n = stepped-on _ _ _ (l .at) _ (l .inv .4) (l .inv .1) in (
-      omega arith,
-      n .0,
-      n .1,
-      left-less (l .at) _ (l .inv .3) (t .loop-test .taken) (l .inv .1) refl,
-      l .inv .4,
-    ))
+    (λ c. let t = c .before in let l = t .before .loop in
+    (omega arith, going-on (l .inv .1), left-less (l .at) _ (l .inv .2) (t .loop-test .taken) (l .inv .1 .placed) refl))
     (λ c. search needs)
-    (λ c. left-none (c .before .loop .inv .3) (c .loop-test .left)))
+    (λ c. left-none (c .before .loop .inv .2) (c .loop-test .left)))

@@ -1,27 +1,19 @@
 -- The bytes go to the banks of the row, in the order of the banks.
 use native.Mathlib.Omega.{arith}
 use borrow.Author.Needs.{needs}
-use Rattle.banks.proofs.OneToOne.{bank-lt}
-use Rattle.store.proofs.Access.{start-lt, row-stored}
+use Rattle.store.proofs.Access.{start-within, line-within, bank-within, row-stored}
 use Rattle.terms.specs.declared.Way.the-variants.{Horizontal}
 use Rattle.store.proofs.store_row.Statement.{statement}
 use Rattle.store.proofs.store_row.Tie as tie
 
 bank-requires : tie.Need-bank-requires
-bank-requires c κs =
-    let a = c .before .before .before .before .before .before .args in
-    (search needs, omega (arith, start-lt Horizontal (a .code) (a .addr)))
+bank-requires c κs = (search needs, start-within Horizontal _ _ _ (c .before .before .before .before .start .ensures))
 
 sub-to-banks : tie.Need-sub-to-banks
-sub-to-banks c =
-    let s = c .before .before .before .before .before in
-    omega (arith, bank-lt (s .before .before .args .code) (s .start .result))
+sub-to-banks c = omega (arith, bank-within _ _ _ (c .bank .ensures))
 
 to-banks-requires : tie.Need-to-banks-requires
-to-banks-requires c κs =
-    let s = c .before .before .before .before .before in
-    let a = s .before .before .args in
-    (search needs, omega (arith, start-lt Horizontal (a .code) (a .addr)), omega arith)
+to-banks-requires c κs = (search needs, line-within Horizontal _ _ _ (c .before .before .before .before .before .start .ensures), omega arith)
 
 pub store-row-spec : {M : Type 1} → statement M
 store-row-spec =

@@ -1,31 +1,16 @@
 -- The line's places in the four banks are the word's.
-use native.Mathlib.Omega.{arith}
 use borrow.Author.Needs.{needs}
-use Rattle.banks.proofs.OneToOne.{bank-lt}
 use Rattle.terms.specs.declared.Way.the-variants.{Scalar}
 use Rattle.store.proofs.Laws.{stored-along}
-use Rattle.store.proofs.Access.{start-lt, word-places}
+use Rattle.store.proofs.Access.{start-within, line-within, bank-within, word-places}
 use Rattle.store.proofs.store_word.Statement.{statement}
 use Rattle.store.proofs.store_word.Tie as tie
 
-bank-requires : tie.Need-bank-requires
-bank-requires c κs =
-    let a = c .before .before .before .args in
-    (search needs, omega (arith, start-lt Scalar (a .code) (a .addr)))
-
-word-to-requires : tie.Need-word-to-requires
-word-to-requires c κs =
-    let s = c .before .before in
-    let a = s .before .before .args in
-    (search needs, omega (arith, start-lt Scalar (a .code) (a .addr)), omega (arith, bank-lt (a .code) (s .start .result)))
-
-returns : tie.Need-returns
-returns c =
-    let t = c .before .before in
-    let b = t .before in
-    let s = b .before .before in
-    stored-along _ _ _ _ _ (t .word-to .ensures) (word-places _ _ _ _ (s .start .ensures) (b .bank .ensures))
-
 pub store-word-spec : {M : Type 1} → statement M
 store-word-spec =
-    tie.close (tie.spec (λ c κs. search needs) bank-requires word-to-requires (λ c. search needs) returns)
+    tie.close
+    (tie.spec (λ c κs. search needs) (λ c κs. (search needs, start-within Scalar _ _ _ (c .before .start .ensures)))
+    (λ c κs. (search needs, line-within Scalar _ _ _ (c .before .before .start .ensures), bank-within _ _ _ (c .bank .ensures)))
+    (λ c. search needs)
+    (λ c. let t = c .before .before in let b = t .before in let s = b .before .before in
+    stored-along _ _ _ _ _ (t .word-to .ensures) (word-places _ _ _ _ (s .start .ensures) (b .bank .ensures))))
