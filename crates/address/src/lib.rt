@@ -1,5 +1,7 @@
 // The address unit's instructions, each on the lent pieces that it may read or change. Each takes the word, so that only the fields that it
 // uses are cut from it, and hands back what it counts.
+#![tactic(auto)]
+
 ghost use Rattle.std.specs.Prelude.{◌≡◌, ◌<◌, [], length};
 ghost use Rattle.banks.specs.Line.{addresses};
 ghost use Rattle.banks.specs.Inner.Access.{places, cells_of};
@@ -10,7 +12,7 @@ ghost use Rattle.words.specs.Fields.{fields_of};
 ghost use Rattle.words.specs.Table.{set_of, add_of, aadd_of, bitop_of, ld_of, st_of, lda_of, sta_of};
 ghost use Rattle.terms.specs.declared.Half.TheVariants.{Low, High};
 ghost use Rattle.pieces.specs.Inner.Regs.{plus, end_at, vreg_of, with_vreg};
-ghost use Rattle.address.specs.Inner.Effect.{five, base_in, inc_of, addr_at, result, result_of};
+ghost use Rattle.address.specs.Inner.Effect.{five, base_in, inc_of, addr_at, result_from, result_of};
 
 use pieces::Base;
 use terms::{Counted, Half, Way};
@@ -18,14 +20,14 @@ use words::{AccessAdd, Increment};
 
 fn base_at(a: &[u32], n: usize) -> Base
     requires { n < length a.now }
-    ensures* { λ b. ⌜ (b ≡ base_in a.now n) × (b.stride < 4) ⌝ }
+    ensures { (result ≡ base_in a.now n) × (result.stride < 4) }
 {
     pieces::base_of(a[n])
 }
 
 fn increment(inc: Increment, a: &[u32]) -> u16
     requires { (length a.now ≡ 32) × BoundedI inc }
-    ensures* { λ y. ⌜ y ≡ inc_of inc a.now ⌝ }
+    ensures { result ≡ inc_of inc a.now }
 {
     match inc {
         Increment::Register(n) => {
@@ -39,8 +41,8 @@ fn increment(inc: Increment, a: &[u32]) -> u16
 // addr of $a[n] moved on by y, and the end flag: the new addr against the limit, which stays.
 fn advance(n: usize, y: u16, cdst: usize, a: &mut [u32], c: &mut [u32])
     requires { (length a.old ≡ 32) × (length c.old ≡ 4) × (n < 32) }
-    ensures* { λ _. ⌜ (a.new ≡ addr_at n (plus (base_in a.old n).addr y) a.old)
-        × (c.new ≡ end_at cdst (plus (base_in a.old n).addr y) (base_in a.old n).limit c.old) ⌝ }
+    ensures { (a.new ≡ addr_at n (plus (base_in a.old n).addr y) a.old)
+        × (c.new ≡ end_at cdst (plus (base_in a.old n).addr y) (base_in a.old n).limit c.old) }
 {
     let old = a[n];
     let new = pieces::moved(old, y);
@@ -52,8 +54,8 @@ fn advance(n: usize, y: u16, cdst: usize, a: &mut [u32], c: &mut [u32])
 // $a[n] moved on after the access of ldav., ldas, stav. or stas.
 fn move_on(n: usize, inc: Increment, cdst: usize, a: &mut [u32], c: &mut [u32])
     requires { (length a.old ≡ 32) × (length c.old ≡ 4) × (n < 32) × BoundedI inc }
-    ensures* { λ _. ⌜ (a.new ≡ addr_at n (plus (base_in a.old n).addr (inc_of inc a.old)) a.old)
-        × (c.new ≡ end_at cdst (plus (base_in a.old n).addr (inc_of inc a.old)) (base_in a.old n).limit c.old) ⌝ }
+    ensures { (a.new ≡ addr_at n (plus (base_in a.old n).addr (inc_of inc a.old)) a.old)
+        × (c.new ≡ end_at cdst (plus (base_in a.old n).addr (inc_of inc a.old)) (base_in a.old n).limit c.old) }
 {
     let y = increment(inc, a);
     advance(n, y, cdst, a, c);
@@ -62,7 +64,7 @@ fn move_on(n: usize, inc: Increment, cdst: usize, a: &mut [u32], c: &mut [u32])
 // The end flag of ld and st: their address is formed by OR, the flag by the sum.
 fn mark_end(b: Base, uimm: u16, cdst: usize, c: &mut [u32])
     requires { length c.old ≡ 4 }
-    ensures* { λ _. ⌜ c.new ≡ end_at cdst (plus b.addr uimm) b.limit c.old ⌝ }
+    ensures { c.new ≡ end_at cdst (plus b.addr uimm) b.limit c.old }
 {
     let sum = std::num::wrapping_add_u16(b.addr, uimm);
     pieces::set_end(c, cdst, sum, b.limit);
@@ -70,7 +72,7 @@ fn mark_end(b: Base, uimm: u16, cdst: usize, c: &mut [u32])
 
 // What an access counts: the cells that it enters.
 fn entered(way: Way, code: usize) -> Counted
-    ensures* { λ r. ⌜ r ≡ Counted.Cells (cells_of way code) ⌝ }
+    ensures { result ≡ Counted.Cells (cells_of way code) }
 {
     Counted::Cells(banks::cells(way, code))
 }
@@ -78,7 +80,7 @@ fn entered(way: Way, code: usize) -> Counted
 // A column loaded into $v[n], or stored from it.
 fn column_in(n: usize, code: usize, x: usize, ds: &[u8], v: &mut [u8])
     requires { (length ds.now ≡ 8192) × (length v.old ≡ 512) × (n < 32) × (code < 4) }
-    ensures* { λ _. ⌜ v.new ≡ with_vreg v.old n (loaded ds.now (places code (addresses Vertical code x))) ⌝ }
+    ensures { v.new ≡ with_vreg v.old n (loaded ds.now (places code (addresses Vertical code x))) }
 {
     let at = 16 * n;
     store::load_column(ds, code, x, &mut v[at..at + 16]);
@@ -86,7 +88,7 @@ fn column_in(n: usize, code: usize, x: usize, ds: &[u8], v: &mut [u8])
 
 fn column_out(n: usize, code: usize, x: usize, ds: &mut [u8], v: &[u8])
     requires { (length ds.old ≡ 8192) × (length v.now ≡ 512) × (n < 32) × (code < 4) }
-    ensures* { λ _. ⌜ ds.new ≡ stored ds.old (places code (addresses Vertical code x)) (vreg_of v.now n) ⌝ }
+    ensures { ds.new ≡ stored ds.old (places code (addresses Vertical code x)) (vreg_of v.now n) }
 {
     let at = 16 * n;
     store::store_column(ds, code, x, &v[at..at + 16]);
@@ -94,8 +96,8 @@ fn column_out(n: usize, code: usize, x: usize, ds: &mut [u8], v: &[u8])
 
 pub fn setlo(word: u32, a: &mut [u32]) -> Counted
     requires { length a.old ≡ 32 }
-    ensures* { λ n. ⌜ result n (five [] a.new [] [] [])
-        ≡ result_of (set_of (fields_of word) Low) (five [] a.old [] [] []) ⌝ }
+    ensures { result_from result (five [] a.new [] [] [])
+        ≡ result_of (set_of (fields_of word) Low) (five [] a.old [] [] []) }
 {
     let f = words::cut(word);
     let n = f.dst;
@@ -105,8 +107,8 @@ pub fn setlo(word: u32, a: &mut [u32]) -> Counted
 
 pub fn sethi(word: u32, a: &mut [u32]) -> Counted
     requires { length a.old ≡ 32 }
-    ensures* { λ n. ⌜ result n (five [] a.new [] [] [])
-        ≡ result_of (set_of (fields_of word) High) (five [] a.old [] [] []) ⌝ }
+    ensures { result_from result (five [] a.new [] [] [])
+        ≡ result_of (set_of (fields_of word) High) (five [] a.old [] [] []) }
 {
     let f = words::cut(word);
     let n = f.dst;
@@ -116,8 +118,8 @@ pub fn sethi(word: u32, a: &mut [u32]) -> Counted
 
 pub fn add(word: u32, index: u32, a: &mut [u32], c: &mut [u32]) -> Counted
     requires { (length a.old ≡ 32) × (length c.old ≡ 4) × (index < 32) }
-    ensures* { λ n. ⌜ result n (five [] a.new [] c.new [])
-        ≡ result_of (add_of (fields_of word) index) (five [] a.old [] c.old []) ⌝ }
+    ensures { result_from result (five [] a.new [] c.new [])
+        ≡ result_of (add_of (fields_of word) index) (five [] a.old [] c.old []) }
 {
     let f = words::cut(word);
     let dst = f.dst;
@@ -130,8 +132,8 @@ pub fn add(word: u32, index: u32, a: &mut [u32], c: &mut [u32]) -> Counted
 
 pub fn aadd(word: u32, index: u32, a: &mut [u32], c: &mut [u32]) -> Counted
     requires { (length a.old ≡ 32) × (length c.old ≡ 4) × (index < 32) }
-    ensures* { λ n. ⌜ result n (five [] a.new [] c.new [])
-        ≡ result_of (aadd_of (fields_of word) index) (five [] a.old [] c.old []) ⌝ }
+    ensures { result_from result (five [] a.new [] c.new [])
+        ≡ result_of (aadd_of (fields_of word) index) (five [] a.old [] c.old []) }
 {
     let f = words::cut(word);
     let y = base_at(a, index as usize);
@@ -141,8 +143,8 @@ pub fn aadd(word: u32, index: u32, a: &mut [u32], c: &mut [u32]) -> Counted
 
 pub fn bitop(word: u32, a: &mut [u32], c: &mut [u32]) -> Counted
     requires { (length a.old ≡ 32) × (length c.old ≡ 4) }
-    ensures* { λ n. ⌜ result n (five [] a.new [] c.new [])
-        ≡ result_of (bitop_of (fields_of word)) (five [] a.old [] c.old []) ⌝ }
+    ensures { result_from result (five [] a.new [] c.new [])
+        ≡ result_of (bitop_of (fields_of word)) (five [] a.old [] c.old []) }
 {
     let f = words::cut(word);
     let dst = f.dst;
@@ -156,8 +158,8 @@ pub fn bitop(word: u32, a: &mut [u32], c: &mut [u32]) -> Counted
 
 pub fn ldvh(word: u32, ds: &[u8], a: &[u32], c: &mut [u32], v: &mut [u8]) -> Counted
     requires { (length ds.now ≡ 8192) × (length a.now ≡ 32) × (length c.old ≡ 4) × (length v.old ≡ 512) }
-    ensures* { λ n. ⌜ result n (five ds.now a.now [] c.new v.new)
-        ≡ result_of (ld_of (fields_of word) Horizontal) (five ds.now a.now [] c.old v.old) ⌝ }
+    ensures { result_from result (five ds.now a.now [] c.new v.new)
+        ≡ result_of (ld_of (fields_of word) Horizontal) (five ds.now a.now [] c.old v.old) }
 {
     let f = words::cut(word);
     let b = base_at(a, f.src1);
@@ -169,8 +171,8 @@ pub fn ldvh(word: u32, ds: &[u8], a: &[u32], c: &mut [u32], v: &mut [u8]) -> Cou
 
 pub fn ldvv(word: u32, ds: &[u8], a: &[u32], c: &mut [u32], v: &mut [u8]) -> Counted
     requires { (length ds.now ≡ 8192) × (length a.now ≡ 32) × (length c.old ≡ 4) × (length v.old ≡ 512) }
-    ensures* { λ n. ⌜ result n (five ds.now a.now [] c.new v.new)
-        ≡ result_of (ld_of (fields_of word) Vertical) (five ds.now a.now [] c.old v.old) ⌝ }
+    ensures { result_from result (five ds.now a.now [] c.new v.new)
+        ≡ result_of (ld_of (fields_of word) Vertical) (five ds.now a.now [] c.old v.old) }
 {
     let f = words::cut(word);
     let b = base_at(a, f.src1);
@@ -182,8 +184,8 @@ pub fn ldvv(word: u32, ds: &[u8], a: &[u32], c: &mut [u32], v: &mut [u8]) -> Cou
 
 pub fn lds(word: u32, ds: &[u8], a: &[u32], c: &mut [u32], r: &mut [u32]) -> Counted
     requires { (length ds.now ≡ 8192) × (length a.now ≡ 32) × (length c.old ≡ 4) × (length r.old ≡ 32) }
-    ensures* { λ n. ⌜ result n (five ds.now a.now r.new c.new [])
-        ≡ result_of (ld_of (fields_of word) Scalar) (five ds.now a.now r.old c.old []) ⌝ }
+    ensures { result_from result (five ds.now a.now r.new c.new [])
+        ≡ result_of (ld_of (fields_of word) Scalar) (five ds.now a.now r.old c.old []) }
 {
     let f = words::cut(word);
     let b = base_at(a, f.src1);
@@ -196,8 +198,8 @@ pub fn lds(word: u32, ds: &[u8], a: &[u32], c: &mut [u32], r: &mut [u32]) -> Cou
 
 pub fn stvh(word: u32, ds: &mut [u8], a: &[u32], c: &mut [u32], v: &[u8]) -> Counted
     requires { (length ds.old ≡ 8192) × (length a.now ≡ 32) × (length c.old ≡ 4) × (length v.now ≡ 512) }
-    ensures* { λ n. ⌜ result n (five ds.new a.now [] c.new v.now)
-        ≡ result_of (st_of (fields_of word) Horizontal) (five ds.old a.now [] c.old v.now) ⌝ }
+    ensures { result_from result (five ds.new a.now [] c.new v.now)
+        ≡ result_of (st_of (fields_of word) Horizontal) (five ds.old a.now [] c.old v.now) }
 {
     let f = words::cut(word);
     let b = base_at(a, f.dst);
@@ -209,8 +211,8 @@ pub fn stvh(word: u32, ds: &mut [u8], a: &[u32], c: &mut [u32], v: &[u8]) -> Cou
 
 pub fn stvv(word: u32, ds: &mut [u8], a: &[u32], c: &mut [u32], v: &[u8]) -> Counted
     requires { (length ds.old ≡ 8192) × (length a.now ≡ 32) × (length c.old ≡ 4) × (length v.now ≡ 512) }
-    ensures* { λ n. ⌜ result n (five ds.new a.now [] c.new v.now)
-        ≡ result_of (st_of (fields_of word) Vertical) (five ds.old a.now [] c.old v.now) ⌝ }
+    ensures { result_from result (five ds.new a.now [] c.new v.now)
+        ≡ result_of (st_of (fields_of word) Vertical) (five ds.old a.now [] c.old v.now) }
 {
     let f = words::cut(word);
     let b = base_at(a, f.dst);
@@ -222,8 +224,8 @@ pub fn stvv(word: u32, ds: &mut [u8], a: &[u32], c: &mut [u32], v: &[u8]) -> Cou
 
 pub fn sts(word: u32, ds: &mut [u8], a: &[u32], c: &mut [u32], r: &[u32]) -> Counted
     requires { (length ds.old ≡ 8192) × (length a.now ≡ 32) × (length c.old ≡ 4) × (length r.now ≡ 32) }
-    ensures* { λ n. ⌜ result n (five ds.new a.now r.now c.new [])
-        ≡ result_of (st_of (fields_of word) Scalar) (five ds.old a.now r.now c.old []) ⌝ }
+    ensures { result_from result (five ds.new a.now r.now c.new [])
+        ≡ result_of (st_of (fields_of word) Scalar) (five ds.old a.now r.now c.old []) }
 {
     let f = words::cut(word);
     let b = base_at(a, f.dst);
@@ -236,8 +238,8 @@ pub fn sts(word: u32, ds: &mut [u8], a: &[u32], c: &mut [u32], r: &[u32]) -> Cou
 
 pub fn ldavh(o: AccessAdd, ds: &[u8], a: &mut [u32], c: &mut [u32], v: &mut [u8]) -> Counted
     requires { (length ds.now ≡ 8192) × (length a.old ≡ 32) × (length c.old ≡ 4) × (length v.old ≡ 512) × BoundedI o.inc }
-    ensures* { λ n. ⌜ result n (five ds.now a.new [] c.new v.new)
-        ≡ result_of (lda_of (fields_of o.bits) Horizontal o.inc) (five ds.now a.old [] c.old v.old) ⌝ }
+    ensures { result_from result (five ds.now a.new [] c.new v.new)
+        ≡ result_of (lda_of (fields_of o.bits) Horizontal o.inc) (five ds.now a.old [] c.old v.old) }
 {
     let f = words::cut(o.bits);
     let inc = o.inc;
@@ -249,8 +251,8 @@ pub fn ldavh(o: AccessAdd, ds: &[u8], a: &mut [u32], c: &mut [u32], v: &mut [u8]
 
 pub fn ldavv(o: AccessAdd, ds: &[u8], a: &mut [u32], c: &mut [u32], v: &mut [u8]) -> Counted
     requires { (length ds.now ≡ 8192) × (length a.old ≡ 32) × (length c.old ≡ 4) × (length v.old ≡ 512) × BoundedI o.inc }
-    ensures* { λ n. ⌜ result n (five ds.now a.new [] c.new v.new)
-        ≡ result_of (lda_of (fields_of o.bits) Vertical o.inc) (five ds.now a.old [] c.old v.old) ⌝ }
+    ensures { result_from result (five ds.now a.new [] c.new v.new)
+        ≡ result_of (lda_of (fields_of o.bits) Vertical o.inc) (five ds.now a.old [] c.old v.old) }
 {
     let f = words::cut(o.bits);
     let inc = o.inc;
@@ -262,8 +264,8 @@ pub fn ldavv(o: AccessAdd, ds: &[u8], a: &mut [u32], c: &mut [u32], v: &mut [u8]
 
 pub fn ldas(o: AccessAdd, ds: &[u8], a: &mut [u32], c: &mut [u32], r: &mut [u32]) -> Counted
     requires { (length ds.now ≡ 8192) × (length a.old ≡ 32) × (length c.old ≡ 4) × (length r.old ≡ 32) × BoundedI o.inc }
-    ensures* { λ n. ⌜ result n (five ds.now a.new r.new c.new [])
-        ≡ result_of (lda_of (fields_of o.bits) Scalar o.inc) (five ds.now a.old r.old c.old []) ⌝ }
+    ensures { result_from result (five ds.now a.new r.new c.new [])
+        ≡ result_of (lda_of (fields_of o.bits) Scalar o.inc) (five ds.now a.old r.old c.old []) }
 {
     let f = words::cut(o.bits);
     let inc = o.inc;
@@ -276,8 +278,8 @@ pub fn ldas(o: AccessAdd, ds: &[u8], a: &mut [u32], c: &mut [u32], r: &mut [u32]
 
 pub fn stavh(o: AccessAdd, ds: &mut [u8], a: &mut [u32], c: &mut [u32], v: &[u8]) -> Counted
     requires { (length ds.old ≡ 8192) × (length a.old ≡ 32) × (length c.old ≡ 4) × (length v.now ≡ 512) × BoundedI o.inc }
-    ensures* { λ n. ⌜ result n (five ds.new a.new [] c.new v.now)
-        ≡ result_of (sta_of (fields_of o.bits) Horizontal o.inc) (five ds.old a.old [] c.old v.now) ⌝ }
+    ensures { result_from result (five ds.new a.new [] c.new v.now)
+        ≡ result_of (sta_of (fields_of o.bits) Horizontal o.inc) (five ds.old a.old [] c.old v.now) }
 {
     let f = words::cut(o.bits);
     let inc = o.inc;
@@ -289,8 +291,8 @@ pub fn stavh(o: AccessAdd, ds: &mut [u8], a: &mut [u32], c: &mut [u32], v: &[u8]
 
 pub fn stavv(o: AccessAdd, ds: &mut [u8], a: &mut [u32], c: &mut [u32], v: &[u8]) -> Counted
     requires { (length ds.old ≡ 8192) × (length a.old ≡ 32) × (length c.old ≡ 4) × (length v.now ≡ 512) × BoundedI o.inc }
-    ensures* { λ n. ⌜ result n (five ds.new a.new [] c.new v.now)
-        ≡ result_of (sta_of (fields_of o.bits) Vertical o.inc) (five ds.old a.old [] c.old v.now) ⌝ }
+    ensures { result_from result (five ds.new a.new [] c.new v.now)
+        ≡ result_of (sta_of (fields_of o.bits) Vertical o.inc) (five ds.old a.old [] c.old v.now) }
 {
     let f = words::cut(o.bits);
     let inc = o.inc;
@@ -302,8 +304,8 @@ pub fn stavv(o: AccessAdd, ds: &mut [u8], a: &mut [u32], c: &mut [u32], v: &[u8]
 
 pub fn stas(o: AccessAdd, ds: &mut [u8], a: &mut [u32], c: &mut [u32], r: &[u32]) -> Counted
     requires { (length ds.old ≡ 8192) × (length a.old ≡ 32) × (length c.old ≡ 4) × (length r.now ≡ 32) × BoundedI o.inc }
-    ensures* { λ n. ⌜ result n (five ds.new a.new r.now c.new [])
-        ≡ result_of (sta_of (fields_of o.bits) Scalar o.inc) (five ds.old a.old r.now c.old []) ⌝ }
+    ensures { result_from result (five ds.new a.new r.now c.new [])
+        ≡ result_of (sta_of (fields_of o.bits) Scalar o.inc) (five ds.old a.old r.now c.old []) }
 {
     let f = words::cut(o.bits);
     let inc = o.inc;

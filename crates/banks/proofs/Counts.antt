@@ -43,12 +43,23 @@ module _ (c b s n x : ℕ) (h : n ≤ 16) (ring : (i : ℕ) → i < n → bank_o
         of_bytes = line_distinct (at c) b s n (λ i j hi hj e. apart i j hi hj (at_bank c _ _ e));
       }
 
+  ring_has : n ≡ 16 → (k : ℕ) → k < 16 → has k (map (bank_of c) (line b s n)) ≡ true
+  ring_has full k hk =
+      let i = (k + 16 - x % 16) % 16 in
+      let l : i < n = omega arith in
+      let e : (x + i) % 16 ≡ k = omega arith in
+      ap (λ (m : ℕ). has m (map (bank_of c) (line b s n))) (sym (ring i l ∙ e)) ∙ line_has (bank_of c) b s n i l
+
 -- ---- "A horizontal access enters all 16 banks, one cell each", "a scalar access enters 4"
 
 module _ (c a : ℕ) where
   pub horizontal_enters : Enters c (addresses Horizontal c a) 16 16 16
   unfolding addresses start_of step_of row_start
   horizontal_enters = ring_enters c (row_start a) 1 16 _ (lit≤ tt) (λ i h. row_bank c (row_start a) i (omega arith))
+
+  pub horizontal_banks : (k : ℕ) → k < 16 → has k (map (bank_of c) (addresses Horizontal c a)) ≡ true
+  unfolding addresses start_of step_of row_start
+  horizontal_banks = ring_has c (row_start a) 1 16 _ (lit≤ tt) (λ i h. row_bank c (row_start a) i (omega arith)) refl
 
   pub scalar_enters : Enters c (addresses Scalar c a) 4 4 4
   unfolding addresses start_of step_of word_start
@@ -59,6 +70,10 @@ module _ (c a : ℕ) where
   pub vertical_enters : Enters (suc c) (addresses Vertical (suc c) a) 16 16 16
   unfolding addresses start_of step_of
   vertical_enters = ring_enters (suc c) _ _ 16 _ (lit≤ tt) (λ i h. column_bank c a i)
+
+  pub vertical_banks : (k : ℕ) → k < 16 → has k (map (bank_of (suc c)) (addresses Vertical (suc c) a)) ≡ true
+  unfolding addresses start_of step_of
+  vertical_banks = ring_has (suc c) _ _ 16 _ (lit≤ tt) (λ i h. column_bank c a i) refl
 
 -- ---- "for code 0 it enters 8 banks, one cell each, both halves": 16 bytes of 8 cells; which they are, says OneCell.antt
 

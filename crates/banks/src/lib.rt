@@ -1,4 +1,6 @@
 // Translation of data store addresses, and the address lists of accesses.
+#![tactic(auto)]
+
 ghost use Rattle.std.specs.Prelude.{◌≡◌, ◌<◌};
 ghost use Rattle.std.specs.Int.Bits.{bit_or};
 ghost use Rattle.banks.specs.Bank.{turn_of, bank_of};

@@ -1,4 +1,6 @@
 // Bit operations by their truth table, at the widths of a component and of an address register.
+#![tactic(auto)]
+
 ghost use Rattle.std.specs.Prelude.{◌≡◌, cond, ◌<◌};
 ghost use Rattle.bits.specs.Bitop.{bit, bitop};
 

@@ -1,4 +1,6 @@
 // A census: the list call, and with it which banks its accesses entered and how often each way was gone under each stride code.
+#![tactic(auto)]
+
 mod tally; // tally.rt: what one step adds to the figures
 
 ghost use Rattle.std.specs.Prelude.{◌≡◌, ◌%◌, length};

@@ -1,4 +1,6 @@
 // The program desk: runs listings, checks what one leaves, explains an instruction. docs/LISTING.md says what is read and written, byte for byte.
+#![tactic(auto)]
+
 mod argument;
 mod asked;
 mod check;

@@ -1,4 +1,6 @@
 // What an instruction touches, as a list of place numbers. docs/PLACES.md numbers the places.
+#![tactic(auto)]
+
 ghost use Rattle.std.specs.Prelude.{◌≡◌, length};
 ghost use Rattle.words.specs.Inner.Bounded.{Bounded};
 ghost use Rattle.words.specs.Inner.Meant.{meant};

@@ -1,4 +1,6 @@
 // Prints, for each stride code, the banks of the sixteen addresses of a vertical load at 0, worked out by the library.
+#![tactic(auto)]
+
 ghost use Rattle.std.specs.Prelude.{◌<◌};
 
 use libc::STDOUT_FILENO;

@@ -1,5 +1,7 @@
 // What an operation makes of one component: small functions that the loops over sixteen components call, in forms that the compiler turns into
 // vector code there. Here stand the operations that a table names.
+#![tactic(auto)]
+
 pub mod clamp; // clamp.rt: a component kept between two bounds, and the lesser of two magnitudes
 pub mod compare; // compare.rt: how far two components are apart
 pub mod nine; // nine.rt: the sum of a byte and a nine-bit number

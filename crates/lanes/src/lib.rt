@@ -1,5 +1,7 @@
 // Sixteen components at a time: what an operation hands back, its flags packed into one word, and the operations that move components and
 // compute nothing. The loops that compute are in the crate `loops`.
+#![tactic(auto)]
+
 pub mod moves; // moves.rt: mov, vmov, mov from $vc, and one byte sixteen times
 pub mod packed; // packed.rt: the flags of sixteen components, packed into one word, and how many are set
 pub mod shuffle; // shuffle.rt: vswz

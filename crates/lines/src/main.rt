@@ -1,4 +1,6 @@
 // Turns instruction words into lines, or lines into words: docs/NAMES.md says what is read and written.
+#![tactic(auto)]
+
 mod report;
 mod to_lines;
 mod to_words;

@@ -1,5 +1,7 @@
 // The operations that compute, sixteen components at a time: a module for each family. Each takes its sources by value, hands its result back by
 // value, and is a loop over a function of the crate `lane`.
+#![tactic(auto)]
+
 pub mod arithmetic; // arithmetic.rt: vmin, vmax, vabs, vneg, vadd and vsub
 pub mod bitwise; // bitwise.rt: vbitop, vand, vxor and vor
 pub mod clamp; // clamp.rt: vclip and vminabs

@@ -1,4 +1,6 @@
 // The machine on the six lent pieces: the list call, and the single call, which is a list of one triple.
+#![tactic(auto)]
+
 ghost use Rattle.std.specs.Prelude.{◌≡◌, cond, ◌%◌, ltb, length};
 ghost use Rattle.pieces.specs.State.{pieces, Sized};
 ghost use Rattle.model.specs.Step.{step_of};

@@ -1,4 +1,6 @@
 // The line of an instruction word, and the word of a line.
+#![tactic(auto)]
+
 mod find; // find.rt: the word that a text is the line of
 mod line; // line.rt: a line in the making
 mod pack; // pack.rt: short texts as one number

@@ -1,5 +1,7 @@
 // What one line of a listing, or of a file of expected values, asks for: docs/LISTING.md has the forms. A line is given as its texts with one space
 // between two, without comment and line feed. Nothing here knows a state.
+#![tactic(auto)]
+
 pub mod bytes; // bytes.rt: bytes and numbers that stand in a line
 mod compared; // compared.rt: the lines of EXPECTED that are compared
 pub mod cursor; // cursor.rt: the texts of a line, one after the other

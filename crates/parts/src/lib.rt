@@ -1,4 +1,6 @@
 // A run of a list that arrives in parts, as bytes: begun, fed, ended. Document 02, wish 3. Its state goes from call to call by value.
+#![tactic(auto)]
+
 mod bytes; // bytes.rt: words out of bytes, and the twelve bytes of a triple
 mod stream; // stream.rt: whole triples, a buffer at a time
 pub mod sixteen; // sixteen.rt: the state as sixteen words, for C

@@ -1,4 +1,6 @@
 // The lent pieces: whether all six have the right lengths, and one register, or one register's flags, of a piece.
+#![tactic(auto)]
+
 ghost use Rattle.std.specs.Prelude.{◌≡◌, ◌<◌, length};
 ghost use Rattle.pieces.specs.State.{lengths};
 ghost use Rattle.pieces.specs.Inner.Regs.{vreg_of, with_vreg, base_of, with_half, plus, with_long, with_end, long_at, end_at, flags_at};

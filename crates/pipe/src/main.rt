@@ -1,4 +1,6 @@
 // The program pipe: runs a list of triples that comes as bytes through standard input, and says how it ended. docs/PARTS.md says what is read and written.
+#![tactic(auto)]
+
 mod asked;
 mod feed;
 

@@ -1,4 +1,6 @@
 // Draws on standard output, as SVG, the curve of banks entered, the map of a stride code or a load: docs/PICTURES.md fixes every byte.
+#![tactic(auto)]
+
 mod access;
 mod args;
 mod curve;

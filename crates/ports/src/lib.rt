@@ -1,10 +1,12 @@
 // What the vector unit's instructions share: where a second source and vcmpad's input bits come from, where a result and its flags go, and what it counts.
+#![tactic(auto)]
+
 ghost use Rattle.std.specs.Prelude.{◌≡◌, ◌<◌, length};
 ghost use Rattle.lanes.specs.Inner.Unpacked.{zeros_of, tops_of, packs};
 ghost use Rattle.pieces.specs.Inner.Regs.{flags_at};
 ghost use Rattle.words.specs.Fields as F;
 ghost use Rattle.words.specs.Inner.Meant.{second_by};
-ghost use Rattle.ports.specs.Inner.Ports.{vectors, second_of, input_of, lanes_at, result};
+ghost use Rattle.ports.specs.Inner.Ports.{vectors, second_of, input_of, lanes_at, result_from};
 
 use lanes::Unpacked;
 use terms::Counted;
@@ -12,7 +14,7 @@ use terms::Counted;
 // Source 2, as one value: BIMM in each component, or the register SRC2.
 pub fn second_of(word: u32, v: &[u8]) -> [u8; 16]
     requires { length v.now ≡ 512 }
-    ensures* { λ r. ⌜ r ≡ second_of (second_by word) v.now ⌝ }
+    ensures { result ≡ second_of (second_by word) v.now }
 {
     let f = words::cut(word);
     if words::by_byte(word) {
@@ -25,7 +27,7 @@ pub fn second_of(word: u32, v: &[u8]) -> [u8; 16]
 // The sixteen bits that vcmpad joins with its comparison: the side mask, where bit 16 says that it is valid, or the sign flags.
 pub fn input_of(vcdst: usize, mask: u32, vc: &[u32]) -> u16
     requires { length vc.now ≡ 4 }
-    ensures* { λ r. ⌜ r ≡ input_of vcdst (F.input_of mask) vc.now ⌝ }
+    ensures { result ≡ input_of vcdst (F.input_of mask) vc.now }
 {
     if mask < 65536 {
         (vc[vcdst % 4] % 65536) as u16
@@ -37,7 +39,7 @@ pub fn input_of(vcdst: usize, mask: u32, vc: &[u32]) -> u16
 // Flags to $vc[VCDST]; where there is no such register they are not packed at all.
 fn pack(tested: [u8; 16], tops: [u8; 16], vcdst: usize, vc: &mut [u32])
     requires { length vc.old ≡ 4 }
-    ensures* { λ _. ⌜ vc.new ≡ flags_at vcdst (tops_of tops) (zeros_of tested) vc.old ⌝ }
+    ensures { vc.new ≡ flags_at vcdst (tops_of tops) (zeros_of tested) vc.old }
 {
     if vcdst < 4 {
         vc[vcdst] = lanes::packed::flags(tested, tops);
@@ -47,7 +49,7 @@ fn pack(tested: [u8; 16], tops: [u8; 16], vcdst: usize, vc: &mut [u32])
 // A result to $v[DST], its flags to $vc[VCDST].
 fn write(m: Unpacked, dst: usize, vcdst: usize, vc: &mut [u32], v: &mut [u8])
     requires { (length vc.old ≡ 4) × (length v.old ≡ 512) × (dst < 32) }
-    ensures* { λ _. ⌜ vectors vc.new v.new ≡ lanes_at dst vcdst (packs m) (vectors vc.old v.old) ⌝ }
+    ensures { vectors vc.new v.new ≡ lanes_at dst vcdst (packs m) (vectors vc.old v.old) }
 {
     let bytes = m.bytes;
     let tested = m.tested;
@@ -59,7 +61,7 @@ fn write(m: Unpacked, dst: usize, vcdst: usize, vc: &mut [u32], v: &mut [u8])
 // The result of an instruction that counts nothing.
 pub fn put(m: Unpacked, dst: usize, vcdst: usize, vc: &mut [u32], v: &mut [u8]) -> Counted
     requires { (length vc.old ≡ 4) × (length v.old ≡ 512) × (dst < 32) }
-    ensures* { λ n. ⌜ result n (vectors vc.new v.new) ≡ result Counted.Nothing (lanes_at dst vcdst (packs m) (vectors vc.old v.old)) ⌝ }
+    ensures { result_from result (vectors vc.new v.new) ≡ result_from Counted.Nothing (lanes_at dst vcdst (packs m) (vectors vc.old v.old)) }
 {
     write(m, dst, vcdst, vc, v);
     Counted::Nothing
@@ -68,7 +70,7 @@ pub fn put(m: Unpacked, dst: usize, vcdst: usize, vc: &mut [u32], v: &mut [u8]) 
 // The result of one that counts the components that were clipped.
 pub fn put_clipped(m: Unpacked, dst: usize, vcdst: usize, vc: &mut [u32], v: &mut [u8]) -> Counted
     requires { (length vc.old ≡ 4) × (length v.old ≡ 512) × (dst < 32) }
-    ensures* { λ n. ⌜ result n (vectors vc.new v.new) ≡ result (Counted.Clipped (packs m).clipped) (lanes_at dst vcdst (packs m) (vectors vc.old v.old)) ⌝ }
+    ensures { result_from result (vectors vc.new v.new) ≡ result_from (Counted.Clipped (packs m).clipped) (lanes_at dst vcdst (packs m) (vectors vc.old v.old)) }
 {
     let clipped = m.clipped;
     write(m, dst, vcdst, vc, v);

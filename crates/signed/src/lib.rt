@@ -1,4 +1,6 @@
 // Small signed numbers: bytes read as signed ones, clipped, shifted, and cut to bytes again.
+#![tactic(auto)]
+
 ghost use Rattle.std.specs.Prelude.{◌≡◌, cond, ◌<◌};
 ghost use Rattle.std.specs.Int.Signed.{mag};
 ghost use Rattle.signed.specs.Signed.{sext, widen, low, clip, shifted};

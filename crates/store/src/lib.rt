@@ -1,4 +1,6 @@
 // Loads and stores of the data store, over a lent slice of 8,192 bytes, and the raw view of a bank.
+#![tactic(auto)]
+
 ghost use Rattle.std.specs.Prelude.{◌≡◌, [], ◌∷◌, ◌+◌, ◌/◌, ◌%◌, ◌<◌, ◌≤◌, length, drop};
 ghost use Rattle.banks.specs.Bank.{at};
 ghost use Rattle.banks.specs.Line.{addresses, start_of, stride_of};

@@ -1,4 +1,6 @@
 // Which places an instruction touches, and whether two instructions may be swapped. docs/PLACES.md numbers the places.
+#![tactic(auto)]
+
 ghost use Rattle.std.specs.Prelude.{◌≡◌, ◌≤◌, ◌-◌, length};
 ghost use Rattle.std.proofs.lemmas.List.Edits.{sets};
 ghost use Rattle.words.specs.Inner.Meant.{meant_d};

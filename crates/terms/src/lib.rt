@@ -1,25 +1,27 @@
 // The terms that every layer speaks in: the way of an access, a half of a word, why a call stopped and its number, what a step and a run count.
+#![tactic(auto)]
+
 ghost use Rattle.std.specs.Prelude.{◌≡◌};
 ghost use Rattle.terms.specs.Answers.{number, numbered};
 ghost use Rattle.terms.specs.Inner.Runs.{end_of, amount, most};
 ghost use Rattle.terms.specs.Counts.{none, plus, Within, within_of};
 
 // How an access goes: along a row, down a column, or over the four bytes of a word.
-#[derive(Drop)]
+#[derive(Clone, Copy)]
 pub enum Way {
     Horizontal,
     Vertical,
     Scalar,
 }
 
-#[derive(Drop)]
+#[derive(Clone, Copy)]
 pub enum Half {
     Low,
     High,
 }
 
 // Why a triple is refused.
-#[derive(Drop)]
+#[derive(Clone, Copy)]
 pub enum Refusal {
     Foreign,
     Undocumented,
@@ -29,7 +31,7 @@ pub enum Refusal {
 
 // Why a call stopped: all is done, a triple was refused, a piece has another length (or a run in parts is none), the words or bytes are no whole triples, the
 // budget is spent; of a line, its name is none, something else is amiss, its line feed is not the last byte and the only one, the output is too short.
-#[derive(Drop)]
+#[derive(Clone, Copy)]
 pub enum End {
     Done,
     Refused(Refusal),
@@ -43,14 +45,14 @@ pub enum End {
 }
 
 // What a call reports besides the state: the cells that its accesses entered, and the components whose true result lay outside the clip range.
-#[derive(Drop)]
+#[derive(Clone, Copy)]
 pub struct Counts {
     pub accesses: u64,
     pub clipped: u64,
 }
 
 // What one step counts. No step counts both, and a step pays for no total that it does not add to.
-#[derive(Drop)]
+#[derive(Clone, Copy)]
 pub enum Counted {
     Nothing,
     Cells(u64),
@@ -58,7 +60,7 @@ pub enum Counted {
 }
 
 // One triple's answer, on pieces of right lengths.
-#[derive(Drop)]
+#[derive(Clone, Copy)]
 pub enum Answer {
     Done(Counted),
     Refused(Refusal),

@@ -1,4 +1,6 @@
 // What the programs share that read and write text.
+#![tactic(auto)]
+
 pub mod count; // count.rt: one more
 pub mod digits; // digits.rt: the value of a digit
 pub mod find; // find.rt: where something stands in a text

@@ -25,9 +25,9 @@ use Rattle.units.specs.Inner.Answers.{Answered, answered, counted_by, by_insn, b
 
 -- more pieces than a function is lent: g puts those that it has among the five
 widen : (i : Address) (p q : Pieces) (g : Pieces → Pieces) → counted_in i p.a ≡ counted_in i q.a → g (addressed i p) ≡ addressed i q
-    → (z : A.Result) → z ≡ A.result_of i p → A.result z.counted (g z.after) ≡ A.result_of i q
+    → (z : A.Result) → z ≡ A.result_of i p → A.result_from z.counted (g z.after) ≡ A.result_of i q
 unfolding A.result_of
-widen i p q g h k z f = ap (λ (z : A.Result). A.result z.counted (g z.after)) f ∙ rw (h, k) refl
+widen i p q g h k z f = ap (λ (z : A.Result). A.result_from z.counted (g z.after)) f ∙ rw (h, k) refl
 
 module _ (s : State) where
   pub idling : answered (X.Done Nothing) s ≡ by_insn N.Nop s

@@ -1,4 +1,6 @@
 // The two units as one, on the six lent pieces: one triple, from its word to what it leaves.
+#![tactic(auto)]
+
 ghost use Rattle.std.specs.Prelude.{◌≡◌};
 ghost use Rattle.pieces.specs.State.{pieces, Sized};
 ghost use Rattle.units.specs.Inner.Answers.{answered, answered_of, refused_of};

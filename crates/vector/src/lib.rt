@@ -1,5 +1,7 @@
 // The vector unit's instructions, on the two pieces that it changes: sources are read into values first, then the result is written.
 // Each takes the word, so that only the fields that it uses are cut from it, and hands back what it counts.
+#![tactic(auto)]
+
 ghost use Rattle.std.specs.Prelude.{◌≡◌, true, false, [], ◌<◌, length};
 ghost use Rattle.lane.specs.declared.Calc.TheVariants.{Min, Max, Abs, Neg, Add, Sub};
 ghost use Rattle.lane.specs.declared.Logic.TheVariants.{And, Xor, Or};
@@ -7,7 +9,7 @@ ghost use Rattle.words.specs.Fields.{fields_of};
 ghost use Rattle.words.specs.Inner.Meant.{second_by};
 ghost use Rattle.words.specs.Table.{arith_of, shift_of, clip_of, add9_of, min_abs_of, vbitop_of, logic_of, cmpad_of, swz_of, mov_of, mov_imm_of, mov_flags_of};
 ghost use Rattle.words.specs.Second.{Register, Absent};
-ghost use Rattle.ports.specs.Inner.Ports.{vectors, result};
+ghost use Rattle.ports.specs.Inner.Ports.{vectors, result_from};
 ghost use Rattle.vector.specs.Inner.Effect.{vectored, result_of};
 
 use terms::Counted;
@@ -15,7 +17,7 @@ use words::Fields;
 
 pub fn vmin_s(word: u32, vc: &mut [u32], v: &mut [u8]) -> Counted
     requires { (length vc.old ≡ 4) × (length v.old ≡ 512) }
-    ensures* { λ n. ⌜ result n (vectors vc.new v.new) ≡ result_of (arith_of (fields_of word) Min true (second_by word)) (vectors vc.old v.old) ⌝ }
+    ensures { result_from result (vectors vc.new v.new) ≡ result_of (arith_of (fields_of word) Min true (second_by word)) (vectors vc.old v.old) }
 {
     let f = words::cut(word);
     let a = pieces::vreg(v, f.src1);
@@ -25,7 +27,7 @@ pub fn vmin_s(word: u32, vc: &mut [u32], v: &mut [u8]) -> Counted
 
 pub fn vmax_s(word: u32, vc: &mut [u32], v: &mut [u8]) -> Counted
     requires { (length vc.old ≡ 4) × (length v.old ≡ 512) }
-    ensures* { λ n. ⌜ result n (vectors vc.new v.new) ≡ result_of (arith_of (fields_of word) Max true (second_by word)) (vectors vc.old v.old) ⌝ }
+    ensures { result_from result (vectors vc.new v.new) ≡ result_of (arith_of (fields_of word) Max true (second_by word)) (vectors vc.old v.old) }
 {
     let f = words::cut(word);
     let a = pieces::vreg(v, f.src1);
@@ -35,7 +37,7 @@ pub fn vmax_s(word: u32, vc: &mut [u32], v: &mut [u8]) -> Counted
 
 pub fn vadd_s(word: u32, vc: &mut [u32], v: &mut [u8]) -> Counted
     requires { (length vc.old ≡ 4) × (length v.old ≡ 512) }
-    ensures* { λ n. ⌜ result n (vectors vc.new v.new) ≡ result_of (arith_of (fields_of word) Add true (second_by word)) (vectors vc.old v.old) ⌝ }
+    ensures { result_from result (vectors vc.new v.new) ≡ result_of (arith_of (fields_of word) Add true (second_by word)) (vectors vc.old v.old) }
 {
     let f = words::cut(word);
     let a = pieces::vreg(v, f.src1);
@@ -45,7 +47,7 @@ pub fn vadd_s(word: u32, vc: &mut [u32], v: &mut [u8]) -> Counted
 
 pub fn vsub_s(word: u32, vc: &mut [u32], v: &mut [u8]) -> Counted
     requires { (length vc.old ≡ 4) × (length v.old ≡ 512) }
-    ensures* { λ n. ⌜ result n (vectors vc.new v.new) ≡ result_of (arith_of (fields_of word) Sub true (Register (fields_of word).src2)) (vectors vc.old v.old) ⌝ }
+    ensures { result_from result (vectors vc.new v.new) ≡ result_of (arith_of (fields_of word) Sub true (Register (fields_of word).src2)) (vectors vc.old v.old) }
 {
     let f = words::cut(word);
     let a = pieces::vreg(v, f.src1);
@@ -55,7 +57,7 @@ pub fn vsub_s(word: u32, vc: &mut [u32], v: &mut [u8]) -> Counted
 
 pub fn vmin_u(word: u32, vc: &mut [u32], v: &mut [u8]) -> Counted
     requires { (length vc.old ≡ 4) × (length v.old ≡ 512) }
-    ensures* { λ n. ⌜ result n (vectors vc.new v.new) ≡ result_of (arith_of (fields_of word) Min false (second_by word)) (vectors vc.old v.old) ⌝ }
+    ensures { result_from result (vectors vc.new v.new) ≡ result_of (arith_of (fields_of word) Min false (second_by word)) (vectors vc.old v.old) }
 {
     let f = words::cut(word);
     let a = pieces::vreg(v, f.src1);
@@ -65,7 +67,7 @@ pub fn vmin_u(word: u32, vc: &mut [u32], v: &mut [u8]) -> Counted
 
 pub fn vmax_u(word: u32, vc: &mut [u32], v: &mut [u8]) -> Counted
     requires { (length vc.old ≡ 4) × (length v.old ≡ 512) }
-    ensures* { λ n. ⌜ result n (vectors vc.new v.new) ≡ result_of (arith_of (fields_of word) Max false (second_by word)) (vectors vc.old v.old) ⌝ }
+    ensures { result_from result (vectors vc.new v.new) ≡ result_of (arith_of (fields_of word) Max false (second_by word)) (vectors vc.old v.old) }
 {
     let f = words::cut(word);
     let a = pieces::vreg(v, f.src1);
@@ -75,7 +77,7 @@ pub fn vmax_u(word: u32, vc: &mut [u32], v: &mut [u8]) -> Counted
 
 pub fn vadd_u(word: u32, vc: &mut [u32], v: &mut [u8]) -> Counted
     requires { (length vc.old ≡ 4) × (length v.old ≡ 512) }
-    ensures* { λ n. ⌜ result n (vectors vc.new v.new) ≡ result_of (arith_of (fields_of word) Add false (second_by word)) (vectors vc.old v.old) ⌝ }
+    ensures { result_from result (vectors vc.new v.new) ≡ result_of (arith_of (fields_of word) Add false (second_by word)) (vectors vc.old v.old) }
 {
     let f = words::cut(word);
     let a = pieces::vreg(v, f.src1);
@@ -85,7 +87,7 @@ pub fn vadd_u(word: u32, vc: &mut [u32], v: &mut [u8]) -> Counted
 
 pub fn vsub_u(word: u32, vc: &mut [u32], v: &mut [u8]) -> Counted
     requires { (length vc.old ≡ 4) × (length v.old ≡ 512) }
-    ensures* { λ n. ⌜ result n (vectors vc.new v.new) ≡ result_of (arith_of (fields_of word) Sub false (second_by word)) (vectors vc.old v.old) ⌝ }
+    ensures { result_from result (vectors vc.new v.new) ≡ result_of (arith_of (fields_of word) Sub false (second_by word)) (vectors vc.old v.old) }
 {
     let f = words::cut(word);
     let a = pieces::vreg(v, f.src1);
@@ -95,7 +97,7 @@ pub fn vsub_u(word: u32, vc: &mut [u32], v: &mut [u8]) -> Counted
 
 pub fn vabs_s(word: u32, vc: &mut [u32], v: &mut [u8]) -> Counted
     requires { (length vc.old ≡ 4) × (length v.old ≡ 512) }
-    ensures* { λ n. ⌜ result n (vectors vc.new v.new) ≡ result_of (arith_of (fields_of word) Abs true Absent) (vectors vc.old v.old) ⌝ }
+    ensures { result_from result (vectors vc.new v.new) ≡ result_of (arith_of (fields_of word) Abs true Absent) (vectors vc.old v.old) }
 {
     let f = words::cut(word);
     let a = pieces::vreg(v, f.src1);
@@ -104,7 +106,7 @@ pub fn vabs_s(word: u32, vc: &mut [u32], v: &mut [u8]) -> Counted
 
 pub fn vneg_s(word: u32, vc: &mut [u32], v: &mut [u8]) -> Counted
     requires { (length vc.old ≡ 4) × (length v.old ≡ 512) }
-    ensures* { λ n. ⌜ result n (vectors vc.new v.new) ≡ result_of (arith_of (fields_of word) Neg true Absent) (vectors vc.old v.old) ⌝ }
+    ensures { result_from result (vectors vc.new v.new) ≡ result_of (arith_of (fields_of word) Neg true Absent) (vectors vc.old v.old) }
 {
     let f = words::cut(word);
     let a = pieces::vreg(v, f.src1);
@@ -113,7 +115,7 @@ pub fn vneg_s(word: u32, vc: &mut [u32], v: &mut [u8]) -> Counted
 
 pub fn vabs_u(word: u32, vc: &mut [u32], v: &mut [u8]) -> Counted
     requires { (length vc.old ≡ 4) × (length v.old ≡ 512) }
-    ensures* { λ n. ⌜ result n (vectors vc.new v.new) ≡ result_of (arith_of (fields_of word) Abs false Absent) (vectors vc.old v.old) ⌝ }
+    ensures { result_from result (vectors vc.new v.new) ≡ result_of (arith_of (fields_of word) Abs false Absent) (vectors vc.old v.old) }
 {
     let f = words::cut(word);
     let a = pieces::vreg(v, f.src1);
@@ -122,7 +124,7 @@ pub fn vabs_u(word: u32, vc: &mut [u32], v: &mut [u8]) -> Counted
 
 pub fn vsar(word: u32, vc: &mut [u32], v: &mut [u8]) -> Counted
     requires { (length vc.old ≡ 4) × (length v.old ≡ 512) }
-    ensures* { λ n. ⌜ result n (vectors vc.new v.new) ≡ result_of (shift_of (fields_of word) true (second_by word)) (vectors vc.old v.old) ⌝ }
+    ensures { result_from result (vectors vc.new v.new) ≡ result_of (shift_of (fields_of word) true (second_by word)) (vectors vc.old v.old) }
 {
     let f = words::cut(word);
     let a = pieces::vreg(v, f.src1);
@@ -132,7 +134,7 @@ pub fn vsar(word: u32, vc: &mut [u32], v: &mut [u8]) -> Counted
 
 pub fn vshr(word: u32, vc: &mut [u32], v: &mut [u8]) -> Counted
     requires { (length vc.old ≡ 4) × (length v.old ≡ 512) }
-    ensures* { λ n. ⌜ result n (vectors vc.new v.new) ≡ result_of (shift_of (fields_of word) false (second_by word)) (vectors vc.old v.old) ⌝ }
+    ensures { result_from result (vectors vc.new v.new) ≡ result_of (shift_of (fields_of word) false (second_by word)) (vectors vc.old v.old) }
 {
     let f = words::cut(word);
     let a = pieces::vreg(v, f.src1);
@@ -142,7 +144,7 @@ pub fn vshr(word: u32, vc: &mut [u32], v: &mut [u8]) -> Counted
 
 pub fn vclip(word: u32, vc: &mut [u32], v: &mut [u8]) -> Counted
     requires { (length vc.old ≡ 4) × (length v.old ≡ 512) }
-    ensures* { λ n. ⌜ result n (vectors vc.new v.new) ≡ result_of (clip_of (fields_of word)) (vectors vc.old v.old) ⌝ }
+    ensures { result_from result (vectors vc.new v.new) ≡ result_of (clip_of (fields_of word)) (vectors vc.old v.old) }
 {
     let f = words::cut(word);
     let a = pieces::vreg(v, f.src1);
@@ -153,7 +155,7 @@ pub fn vclip(word: u32, vc: &mut [u32], v: &mut [u8]) -> Counted
 
 pub fn vadd9(word: u32, vc: &mut [u32], v: &mut [u8]) -> Counted
     requires { (length vc.old ≡ 4) × (length v.old ≡ 512) }
-    ensures* { λ n. ⌜ result n (vectors vc.new v.new) ≡ result_of (add9_of (fields_of word)) (vectors vc.old v.old) ⌝ }
+    ensures { result_from result (vectors vc.new v.new) ≡ result_of (add9_of (fields_of word)) (vectors vc.old v.old) }
 {
     let f = words::cut(word);
     let a = pieces::vreg(v, f.src1);
@@ -164,7 +166,7 @@ pub fn vadd9(word: u32, vc: &mut [u32], v: &mut [u8]) -> Counted
 
 pub fn vminabs(word: u32, vc: &mut [u32], v: &mut [u8]) -> Counted
     requires { (length vc.old ≡ 4) × (length v.old ≡ 512) }
-    ensures* { λ n. ⌜ result n (vectors vc.new v.new) ≡ result_of (min_abs_of (fields_of word)) (vectors vc.old v.old) ⌝ }
+    ensures { result_from result (vectors vc.new v.new) ≡ result_of (min_abs_of (fields_of word)) (vectors vc.old v.old) }
 {
     let f = words::cut(word);
     let a = pieces::vreg(v, f.src1);
@@ -174,7 +176,7 @@ pub fn vminabs(word: u32, vc: &mut [u32], v: &mut [u8]) -> Counted
 
 pub fn vbitop(word: u32, vc: &mut [u32], v: &mut [u8]) -> Counted
     requires { (length vc.old ≡ 4) × (length v.old ≡ 512) }
-    ensures* { λ n. ⌜ result n (vectors vc.new v.new) ≡ result_of (vbitop_of (fields_of word)) (vectors vc.old v.old) ⌝ }
+    ensures { result_from result (vectors vc.new v.new) ≡ result_of (vbitop_of (fields_of word)) (vectors vc.old v.old) }
 {
     let f = words::cut(word);
     let a = pieces::vreg(v, f.src1);
@@ -184,7 +186,7 @@ pub fn vbitop(word: u32, vc: &mut [u32], v: &mut [u8]) -> Counted
 
 pub fn vand(word: u32, vc: &mut [u32], v: &mut [u8]) -> Counted
     requires { (length vc.old ≡ 4) × (length v.old ≡ 512) }
-    ensures* { λ n. ⌜ result n (vectors vc.new v.new) ≡ result_of (logic_of (fields_of word) And) (vectors vc.old v.old) ⌝ }
+    ensures { result_from result (vectors vc.new v.new) ≡ result_of (logic_of (fields_of word) And) (vectors vc.old v.old) }
 {
     let f = words::cut(word);
     let a = pieces::vreg(v, f.src1);
@@ -193,7 +195,7 @@ pub fn vand(word: u32, vc: &mut [u32], v: &mut [u8]) -> Counted
 
 pub fn vxor(word: u32, vc: &mut [u32], v: &mut [u8]) -> Counted
     requires { (length vc.old ≡ 4) × (length v.old ≡ 512) }
-    ensures* { λ n. ⌜ result n (vectors vc.new v.new) ≡ result_of (logic_of (fields_of word) Xor) (vectors vc.old v.old) ⌝ }
+    ensures { result_from result (vectors vc.new v.new) ≡ result_of (logic_of (fields_of word) Xor) (vectors vc.old v.old) }
 {
     let f = words::cut(word);
     let a = pieces::vreg(v, f.src1);
@@ -202,7 +204,7 @@ pub fn vxor(word: u32, vc: &mut [u32], v: &mut [u8]) -> Counted
 
 pub fn vor(word: u32, vc: &mut [u32], v: &mut [u8]) -> Counted
     requires { (length vc.old ≡ 4) × (length v.old ≡ 512) }
-    ensures* { λ n. ⌜ result n (vectors vc.new v.new) ≡ result_of (logic_of (fields_of word) Or) (vectors vc.old v.old) ⌝ }
+    ensures { result_from result (vectors vc.new v.new) ≡ result_of (logic_of (fields_of word) Or) (vectors vc.old v.old) }
 {
     let f = words::cut(word);
     let a = pieces::vreg(v, f.src1);
@@ -211,7 +213,7 @@ pub fn vor(word: u32, vc: &mut [u32], v: &mut [u8]) -> Counted
 
 pub fn mov(word: u32, vc: &mut [u32], v: &mut [u8]) -> Counted
     requires { (length vc.old ≡ 4) × (length v.old ≡ 512) }
-    ensures* { λ n. ⌜ result n (vectors vc.new v.new) ≡ result_of (mov_of (fields_of word)) (vectors vc.old v.old) ⌝ }
+    ensures { result_from result (vectors vc.new v.new) ≡ result_of (mov_of (fields_of word)) (vectors vc.old v.old) }
 {
     let f = words::cut(word);
     let a = pieces::vreg(v, f.src1);
@@ -220,7 +222,7 @@ pub fn mov(word: u32, vc: &mut [u32], v: &mut [u8]) -> Counted
 
 pub fn vmov(word: u32, vc: &mut [u32], v: &mut [u8]) -> Counted
     requires { (length vc.old ≡ 4) × (length v.old ≡ 512) }
-    ensures* { λ n. ⌜ result n (vectors vc.new v.new) ≡ result_of (mov_imm_of (fields_of word)) (vectors vc.old v.old) ⌝ }
+    ensures { result_from result (vectors vc.new v.new) ≡ result_of (mov_imm_of (fields_of word)) (vectors vc.old v.old) }
 {
     let f = words::cut(word);
     ports::put(lanes::moves::vmov(f.byte), f.dst, f.flags, vc, v)
@@ -228,7 +230,7 @@ pub fn vmov(word: u32, vc: &mut [u32], v: &mut [u8]) -> Counted
 
 pub fn mov_vc(word: u32, vc: &[u32], v: &mut [u8]) -> Counted
     requires { (length vc.now ≡ 4) × (length v.old ≡ 512) }
-    ensures* { λ n. ⌜ result n (vectors vc.now v.new) ≡ result_of (mov_flags_of (fields_of word)) (vectors vc.now v.old) ⌝ }
+    ensures { result_from result (vectors vc.now v.new) ≡ result_of (mov_flags_of (fields_of word)) (vectors vc.now v.old) }
 {
     let f = words::cut(word);
     pieces::set_vreg(v, f.dst, lanes::moves::mov_vc(vc[0], vc[1], vc[2], vc[3]));
@@ -237,7 +239,7 @@ pub fn mov_vc(word: u32, vc: &[u32], v: &mut [u8]) -> Counted
 
 pub fn vswz(word: u32, v: &mut [u8]) -> Counted
     requires { length v.old ≡ 512 }
-    ensures* { λ n. ⌜ result n (vectors [] v.new) ≡ result_of (swz_of (fields_of word)) (vectors [] v.old) ⌝ }
+    ensures { result_from result (vectors [] v.new) ≡ result_of (swz_of (fields_of word)) (vectors [] v.old) }
 {
     let f = words::cut(word);
     let a = pieces::vreg(v, f.src1);
@@ -250,7 +252,7 @@ pub fn vswz(word: u32, v: &mut [u8]) -> Counted
 // Source 1 names a pair of registers: the odd one holds what the distances are compared with. Where there is no $vc[VCDST] nothing is written.
 fn compared(f: Fields, mask: u32, vc: &mut [u32], v: &[u8])
     requires { (length vc.old ≡ 4) × (length v.now ≡ 512) × (f.src1 < 32) × (f.src2 < 32) }
-    ensures* { λ _. ⌜ vectors vc.new v.now ≡ vectored (cmpad_of f mask) (vectors vc.old v.now) ⌝ }
+    ensures { vectors vc.new v.now ≡ vectored (cmpad_of f mask) (vectors vc.old v.now) }
 {
     if f.flags < 4 {
         let other = pieces::vreg(v, f.src1 | 1);
@@ -264,7 +266,7 @@ fn compared(f: Fields, mask: u32, vc: &mut [u32], v: &[u8])
 
 pub fn vcmpad(word: u32, mask: u32, vc: &mut [u32], v: &[u8]) -> Counted
     requires { (length vc.old ≡ 4) × (length v.now ≡ 512) }
-    ensures* { λ n. ⌜ result n (vectors vc.new v.now) ≡ result_of (cmpad_of (fields_of word) mask) (vectors vc.old v.now) ⌝ }
+    ensures { result_from result (vectors vc.new v.now) ≡ result_of (cmpad_of (fields_of word) mask) (vectors vc.old v.now) }
 {
     let f = words::cut(word);
     compared(f, mask, vc, v);

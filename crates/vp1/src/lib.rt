@@ -1,4 +1,6 @@
 // The machine for C: an answer as document 01's number, the counts through pointers. include/vp1.h declares the functions.
+#![tactic(auto)]
+
 ghost use Rattle.std.specs.Prelude.{◌≡◌};
 ghost use Rattle.pieces.specs.State.{pieces};
 ghost use Rattle.model.specs.Step.{outcome, step_of};

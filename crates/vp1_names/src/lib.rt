@@ -1,4 +1,6 @@
 // The lines of instruction words for C: an answer as its number, the length or the word through a pointer. include/vp1_names.h declares the functions.
+#![tactic(auto)]
+
 ghost use Rattle.std.specs.Prelude.{◌≡◌};
 ghost use Rattle.names.specs.Calls.{wrote, write_of, got, read_of};
 

@@ -1,5 +1,7 @@
 // Which places a triple touches, and whether two triples may be swapped, for C: an answer as document 01's number, the rest through pointers.
 // No piece is changed. include/vp1_order.h declares the functions.
+#![tactic(auto)]
+
 ghost use Rattle.std.specs.Prelude.{◌≡◌};
 ghost use Rattle.pieces.specs.State.{pieces};
 ghost use Rattle.model.specs.Swap.{verdict, swap_outcome, swap_of, places_outcome, places_of};

@@ -1,4 +1,6 @@
 // The instruction word, cut into fields, and the decision by its opcode: an instruction or a refusal.
+#![tactic(auto)]
+
 ghost use Rattle.std.specs.Prelude.{◌≡◌, ◌<◌};
 ghost use Rattle.words.specs.Fields.{imm_of, fields_of};
 ghost use Rattle.words.specs.Table.{decode_of};

@@ -114,8 +114,8 @@ pub record Result : Type 0 where
   pub counted : Counted
   pub after : Pieces
 
-abbrev pub result : Counted → Pieces → Result
-result n p = record { counted = n; after = p }
+abbrev pub result_from : Counted → Pieces → Result
+result_from n p = record { counted = n; after = p }
 
 unfoldable pub result_of : Address → Pieces → Result
 result_of i p = result (counted_in i p.a) (addressed i p)

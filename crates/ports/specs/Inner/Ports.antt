@@ -35,5 +35,5 @@ pub record Result : Type 0 where
   pub counted : Counted
   pub after : Vectors
 
-abbrev pub result : Counted → Vectors → Result
-result n s = record { counted = n; after = s }
+abbrev pub result_from : Counted → Vectors → Result
+result_from n s = record { counted = n; after = s }

@@ -161,7 +161,7 @@ vabsU c = let p = c.before.before.before.before.before.before.before.before.befo
 
 vswz : tie.Need-returns-14
 unfolding meant U.result_of U.vectored U.counted_of
-vswz c = let p = c.before.before.before.before.before.before.before in of_vector p c.before.before.before.before.before.i13.given.1 refl (ap (λ (z : P.Result). P.result z.counted (P.vectors (now p).vc z.after.v)) c.before.before.vswz.ensures)
+vswz c = let p = c.before.before.before.before.before.before.before in of_vector p c.before.before.before.before.before.i13.given.1 refl (ap (λ (z : P.Result). P.result_from z.counted (P.vectors (now p).vc z.after.v)) c.before.before.vswz.ensures)
 
 vaddU : tie.Need-returns-15
 unfolding meant

@@ -1,6 +1,6 @@
 -- `vector::vcmpad` meets its contract.
 use mathlib.Core.Path.{ap}
-use Rattle.ports.specs.Inner.Ports.{result}
+use Rattle.ports.specs.Inner.Ports.{result_from}
 use Rattle.vector.specs.Inner.Effect.{result_of, counted_of}
 use Rattle.terms.specs.declared.Counted.TheVariants.{Nothing}
 use borrow.Author.Rules.{rules}
@@ -15,4 +15,4 @@ vcmpad_spec =
     (λ c κs. search rules)
     (λ c κs. search rules)
     (λ c. search rules)
-    (λ c. rw (← c.before.before.before.before.cut.ensures.0) (ap (result Nothing) c.before.before.compared.ensures)))
+    (λ c. rw (← c.before.before.before.before.cut.ensures.0) (ap (result_from Nothing) c.before.before.compared.ensures)))

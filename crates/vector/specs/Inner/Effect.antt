@@ -5,7 +5,7 @@ use Rattle.lane.specs.Lane.{tells}
 use Rattle.lanes.specs.Lanes.{arith_lanes, shift_lanes, clip_lanes, add9_lanes, min_abs_lanes, bitop_lanes, logic_lanes, cmpad_flags, swizzled, mov_lanes, mov_imm_lanes, flag_bytes}
 use Rattle.lanes.specs.declared.Flags.{Flags}
 use Rattle.pieces.specs.Inner.Regs.{vreg_of, with_vreg, flags_at}
-use Rattle.ports.specs.Inner.Ports.{Vectors, vectors, second_of, input_of, lanes_at, Result, result}
+use Rattle.ports.specs.Inner.Ports.{Vectors, vectors, second_of, input_of, lanes_at, Result, result_from}
 use Rattle.terms.specs.declared.Counted.{Counted}
 use Rattle.terms.specs.declared.Counted.TheVariants.{Nothing, Clipped}
 use Rattle.words.specs.Vector.{Vector}
@@ -46,4 +46,4 @@ counted_of (MovFlags dst) s = Nothing
 
 -- what it comes to: what it counts, and the two pieces afterwards
 unfoldable pub result_of : Vector → Vectors → Result
-result_of i s = result (counted_of i s) (vectored i s)
+result_of i s = result_from (counted_of i s) (vectored i s)
