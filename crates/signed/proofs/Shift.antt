@@ -57,10 +57,6 @@ count_is (pos zero) h = refl
 count_is (pos (suc k)) h = refl
 count_is (negsuc k) h = rw (le-ltb 8 (suc k) (omega arith)) (ap pos (omega arith))
 
-places_small : (n : ℤ) → mag n < 8 → places n < 16
-places_small (pos k) h = omega arith
-places_small (negsuc k) h = omega arith
-
 raise_and_lower : (s n : ℤ) → mag n < 8 → shr_z (times s 256) (2 ^ places n) ≡ shifted s n
 unfolding shifted
 raise_and_lower s (pos k) h = sym (down_down (times s 256) 8 k) ∙ ap (λ (z : ℤ). shr_z z (2 ^ k)) (down s 0 8 ∙ times_one s)
@@ -71,12 +67,6 @@ module _ (s n : ℤ) (hs : mag s < 256) (hn : mag n < 8) where
   pub raised_fits : SFits w32 (s *ℤ pos 256)
   raised_fits = rw (times_is s 256 (omega arith)) (record { sfits = mag_times s hs })
 
-  pub count_fits : SFits w32 (pos 8 -ℤ neg_ℤ n)
-  count_fits = rw (count_is n hn) (record { sfits = omega (arith, places_small n hn) })
-
-  pub count_small : of_z w32 (pos 8 -ℤ neg_ℤ n) < 32
-  count_small = rw (count_is n hn) (omega (arith, places_small n hn))
-
   pub shifted_is : to_z w32 (of_z w32 (shr_z (s *ℤ pos 256) (2 ^ of_z w32 (pos 8 -ℤ neg_ℤ n)))) ≡ shifted s n
   shifted_is = rw (count_is n hn, times_is s 256 (omega arith))
-      (to_z-of_z (record { sfits = lt_of_le_of_lt (mag_shr (times s 256) (2 ^ places n)) (mag_times s hs) }) ∙ raise_and_lower s n hn)
+      (to_z-of_z {w = w32} (record { sfits = lt_of_le_of_lt (mag_shr (times s 256) (2 ^ places n)) (mag_times s hs) }) ∙ raise_and_lower s n hn)

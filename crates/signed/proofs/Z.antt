@@ -134,7 +134,7 @@ module _ (k : ℕ) (h : k < 16) where
 -- the low k bits, as the code takes them
 low_neg : (j k n : ℕ) → j + k ≡ 32 → n < 2 ^ 32 → (2 ^ 32 - suc n) % 2 ^ k ≡ (2 ^ k - 1) - n % 2 ^ k
 low_neg j k n e h =
-    let whole : 2 ^ j * 2 ^ k ≡ 2 ^ 32 = sym (Pow.pow_add 2 j k) ∙ ap (λ (m : ℕ). 2 ^ m) e in
+    let whole : 2 ^ j * 2 ^ k ≡ 2 ^ 32 = sym (Pow.pow-add 2 j k) ∙ ap (λ (m : ℕ). 2 ^ m) e in
     let q : n / 2 ^ k < 2 ^ j = Pow.shr_lt j k (rw e h) in
     let parts : (2 ^ j - suc (n / 2 ^ k)) * 2 ^ k + suc (n / 2 ^ k) * 2 ^ k ≡ 2 ^ j * 2 ^ k =
     sym (add-mul (2 ^ j - suc (n / 2 ^ k)) (suc (n / 2 ^ k)) (2 ^ k)) ∙ ap (λ (m : ℕ). m * 2 ^ k) (omega arith) in
@@ -156,7 +156,7 @@ pub low_cast : (j k : ℕ) → suc j + k ≡ 32 → (z : ℤ) → SFits w32 z �
 low_cast j k e z h = rw (low_is (suc j) k e z h) (byte_z (low k z) (omega (arith, low_lt k z, Pow.pow_mono {i = k} {j = 31} (omega arith))))
 
 pub back : (z : ℤ) → mag z < 2 ^ 31 → to_z w32 (of_z w32 z) ≡ z
-back z h = F.to_z-of_z (record { sfits = h })
+back z h = F.to_z-of_z {w = w32} (record { sfits = h })
 
 pub neg_back : (a : ℤ) → mag a < 256 → to_z w32 (of_z w32 (pos 0 -ℤ a)) ≡ neg_ℤ a
 neg_back a h = F.to_z-of_z (sub_fits (pos 0) a (omega arith) h) ∙ +ℤ_idl (neg_ℤ a)
