@@ -1,6 +1,6 @@
 -- How many different numbers a list holds, where a function runs over a line of addresses.
 --
-use mathlib.Core.Path.{◌≡◌, refl, ap, ap₂, ◌∙◌}
+use mathlib.Core.Path.{◌≡◌, refl, sym, ap, ap₂, ◌∙◌, subst}
 use mathlib.Core.Bool.{true, false, or-true, or_self_left}
 use mathlib.Core.List.{List, [], ◌∷◌, map, map-map}
 use Prim.Native.Nat.{ℕ, zero, suc, ◌+◌, ◌*◌, ◌/◌, ◌≤◌, ◌<◌}
@@ -27,7 +27,8 @@ has_at : (f : ℕ → ℕ) (s n i : ℕ) → i < n → has (f (s + i)) (map f (f
 has_at f s zero i h = absurd (not-suc-le-zero h)
 has_at f s (suc n) zero h = rw (add-zero s, eq-eqb (f s) (f s) refl)
 has_at f s (suc n) (suc i) h =
-    rw (add-suc s i, ← suc-add s i, has_at f (suc s) n i (le_of_suc-le-suc h)) (or-true (eqb (f (suc s + i)) (f s)))
+    subst (λ (k : ℕ). has (f k) (map f (from s (suc n))) ≡ true) (suc-add s i ∙ sym (add-suc s i))
+    (rw (has_at f (suc s) n i (le_of_suc-le-suc h)) (or-true (eqb (f (suc s + i)) (f s))))
 
 -- ---- the same of a line
 

@@ -5,9 +5,9 @@ use mathlib.Core.Bool.{Bool, true, false, cond, ◌||◌}
 use mathlib.Core.List.{List, [], ◌∷◌, map, Memᴰ}
 use Prim.Native.Nat.{ℕ, zero, suc, ◌+◌, ◌*◌, ◌/◌, ◌≤◌, ◌<◌, zero-le}
 use native.Mathlib.Omega.{arith}
-use lib.Dec.{eqb, ltb, lit<}
+use lib.Dec.{eqb, ltb}
 use borrow.Author.Tests.{ne_eqb, eq-eqb, eqb-true, eqb-false}
-use Rattle.banks.specs.Bank.{cell_of, bank_of, pair_of}
+use Rattle.banks.specs.Bank.{bank_of, pair_of}
 use Rattle.banks.specs.Line.{from, has, distinct, of_bank, total, addresses, start_of}
 use Rattle.banks.specs.Inner.Access.{cells_of, behind}
 use Rattle.terms.specs.declared.Way.{Way}

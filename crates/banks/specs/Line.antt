@@ -57,12 +57,12 @@ abbrev pub has : ℕ → List ℕ → Bool
 has x [] = false
 has x (y ∷ ys) = eqb x y || has x ys
 
--- how many different numbers a list holds: with pairOf, "the number of distinct (bank, cell) pairs"
+-- how many different numbers a list holds: with pair_of, "the number of distinct (bank, cell) pairs"
 abbrev pub distinct : List ℕ → ℕ
 distinct [] = zero
 distinct (x ∷ xs) = cond (has x xs) (distinct xs) (suc (distinct xs))
 
--- the pairs of a list that lie in one bank: pairOf puts the bank above the 256 cells
+-- the pairs of a list that lie in one bank: pair_of puts the bank above the 256 cells
 abbrev pub of_bank : ℕ → List ℕ → List ℕ
 of_bank b [] = []
 of_bank b (p ∷ ps) = cond (eqb (p / 256) b) (p ∷ of_bank b ps) (of_bank b ps)

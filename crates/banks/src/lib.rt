@@ -54,7 +54,7 @@ pub fn step(way: Way, code: usize) -> usize
     }
 }
 
-// How many cells it enters: cells-are of proofs/Counts says that they are the distinct pairs of its address list.
+// How many cells it enters: cells_are of proofs/Counts says that they are the distinct pairs of its address list.
 pub fn cells(way: Way, code: usize) -> u64
     ensures { result ≡ cells_of way code }
 {

@@ -1,4 +1,4 @@
--- An access as the code goes through it: its places, and how many cells it enters; cells-are of proofs/Counts says that they are the distinct
+-- An access as the code goes through it: its places, and how many cells it enters; cells_are of proofs/Counts says that they are the distinct
 -- pairs of its address list.
 use Rattle.std.specs.Prelude.{ℕ, zero, suc, ◌+◌, ◌-◌, ◌%◌, List, map}
 use Rattle.terms.specs.declared.Way.{Way}
