@@ -1,34 +1,32 @@
 -- What a census comes to: the sixteen figures add up to the run's cell accesses, the twelve to its loads and stores; a list joined to another gives the sum
 -- of both.
 use mathlib.Core.Path.{◌≡◌, refl, sym, ap, ap₂, ◌∙◌}
-use Prim.Native.Nat.{ℕ, zero, suc, ◌+◌, ◌*◌, ◌-◌, ◌/◌, ◌%◌, ◌≤◌, ◌<◌, zero-le}
+use Prim.Native.Nat.{ℕ, zero, suc, ◌+◌, ◌*◌, ◌-◌, ◌%◌, ◌≤◌, ◌<◌, zero-le}
 use native.Mathlib.Omega.{arith}
 use mathlib.Core.Bool.{Bool, true, false, cond}
-use mathlib.Core.List.{List, [], ◌∷◌, ◌++◌, map, map-map}
+use mathlib.Core.List.{List, [], ◌∷◌, ◌++◌, map}
 use borrow.Author.Tests.{eqb-true, eqb-false, eq-eqb, ne_eqb}
-use lib.Dec.{eqb, ltb, lit<}
+use lib.Dec.{eqb}
 use lib.ListN.{length, get_or, drop, length-append}
 use Rattle.terms.specs.Counts.{none, plus}
 use Rattle.terms.specs.declared.Counts.{Counts}
 use Rattle.terms.specs.declared.Refusal.TheVariants as R
 use Rattle.terms.specs.declared.Way.{Way}
 use Rattle.terms.specs.declared.Way.TheVariants.{Horizontal, Vertical, Scalar}
-use Rattle.banks.specs.Bank.{pair_of, bank_of}
-use Rattle.banks.specs.Line.{from, total, distinct, of_bank, addresses, start_of}
-use Rattle.banks.specs.Inner.Access.{cells_of, behind}
-use Rattle.banks.proofs.PerBank.{map_eq, spike, adds_up, pair_lt, per_bank}
+use Rattle.banks.specs.Bank.{pair_of}
+use Rattle.banks.specs.Line.{from, total}
+use Rattle.banks.proofs.PerBank.{map_eq, spike, adds_up, pair_lt}
 use Rattle.words.specs.Table.{decode_of}
 use Rattle.words.specs.Insn.{Insn}
 use Rattle.words.specs.Decoded.{Decoded}
 use Rattle.words.specs.Decoded as D
 use Rattle.pieces.specs.State.{State, Sized, sized_of}
 use Rattle.pieces.specs.Place.{Addr, xlat}
-use Rattle.pieces.proofs.Right.{sized_if, sized_only, clash}
-use Rattle.model.specs.Prog.{ret, run, Access, idle, load, store, Done, cells, done}
-use Rattle.model.specs.Address.{span}
+use Rattle.pieces.proofs.Right.{sized_if, sized_only}
+use Rattle.model.specs.Prog.{ret, Access, idle, load, store, Done, cells, done}
 use Rattle.model.specs.Step.{did, stepped, counted, by_decoded, triple_of, Outcome}
 use Rattle.model.specs.Run.{Triple, triples, RunOutcome, ended, run_from, run_of}
-use Rattle.model.specs.Census.{Met, met_by, met_from, met_of, accessed, pairs_of, in_bank, way_number, code_number, figure_of, by_way, sum_over, bank_figures, way_figures}
+use Rattle.model.specs.Census.{Met, met_by, met_from, met_of, accessed, in_bank, way_number, code_number, figure_of, by_way, sum_over, bank_figures, way_figures}
 use Rattle.model.proofs.Laws.{run_bind}
 use Rattle.model.proofs.Triples.{triples_join}
 use Rattle.model.proofs.Lengths.{sized_run}

@@ -1,9 +1,9 @@
 -- Which access each instruction makes, and what it adds to the figures of a census: one to each bank that it enters, for every address.
 use mathlib.Core.Path.{◌≡◌, refl, ap, ◌∙◌}
-use Prim.Native.Nat.{ℕ, zero, suc, ◌+◌, ◌*◌, ◌%◌, ◌<◌}
+use Prim.Native.Nat.{ℕ, suc, ◌+◌, ◌*◌, ◌%◌, ◌<◌}
 use native.Mathlib.Omega.{arith}
 use mathlib.Core.Bool.{cond}
-use mathlib.Core.List.{List, map, map-map}
+use mathlib.Core.List.{List, map-map}
 use borrow.Author.Tests.{lt-ltb}
 use lib.Bits.{bit_or}
 use lib.Dec.{ltb, lit<}
@@ -20,9 +20,9 @@ use Rattle.words.specs.Insn.{Insn}
 use Rattle.words.specs.Insn as N
 use Rattle.pieces.specs.State.{State}
 use Rattle.pieces.specs.Place.{Addr, xlat}
-use Rattle.model.specs.Prog.{Prog, ◌>>=◌, run, Access, idle, load, store, Did, Write}
-use Rattle.model.specs.Address.{Base, base, address, increment, span, loads, from, loading}
-use Rattle.model.specs.Census.{Met, accessed, pairs_of, in_bank}
+use Rattle.model.specs.Prog.{Prog, ◌>>=◌, run, Access, idle, load, store, Did}
+use Rattle.model.specs.Address.{Base, base, address, increment, span, loads, from}
+use Rattle.model.specs.Census.{accessed, pairs_of, in_bank}
 use Rattle.model.proofs.Laws.{run_bind}
 use Rattle.model.proofs.Cells.{vector_idle}
 

@@ -1,12 +1,9 @@
 -- A refused step leaves the state and counts nothing, and each number is given exactly where the lengths or the decoded word ask for it.
-use mathlib.Core.Path.{◌≡◌, refl, sym, ap, ◌∙◌, subst}
+use mathlib.Core.Path.{◌≡◌, refl, ap, ◌∙◌, subst}
 use mathlib.Core.Logic.{◌↔◌}
 use Prim.Native.Nat.{ℕ, ◌≤◌, zero-le}
 use native.Mathlib.Omega.{arith}
-use mathlib.Core.Bool.{Bool, true, false, cond, ◌&&◌}
-use borrow.Author.Tests.{eqb-true}
-use lib.Dec.{eqb}
-use lib.ListN.{length}
+use mathlib.Core.Bool.{Bool, true, false, cond}
 use Rattle.terms.specs.Counts.{none}
 use Rattle.terms.proofs.Inverse.{refused_inj}
 use Rattle.words.specs.Table.{decode_of}

@@ -19,7 +19,7 @@ use Rattle.words.specs.Vector as W
 use Rattle.words.specs.Insn as N
 use Rattle.pieces.specs.State.{State, Sized}
 use Rattle.pieces.specs.Place.{xlat, signs, zeros}
-use Rattle.model.specs.Prog.{Prog, ret, ◌>>=◌, run, puts, ◌≔◌, Did, Done, done}
+use Rattle.model.specs.Prog.{ret, run, puts, ◌≔◌, Did, Done, done}
 use Rattle.model.specs.Vector.{flags_to, lanes_to, second, vector}
 use Rattle.model.specs.Claims.{bytes_of, component, second_at, addend, clips}
 use Rattle.model.specs.Step.{stepped}
