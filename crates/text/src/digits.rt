@@ -1,7 +1,7 @@
 // The value of a digit, and what the number of a text can be.
 
 // A text's number, where it is one.
-#[derive(Drop)]
+#[derive(Clone, Copy)]
 pub enum Number {
     Is(u32),
     Nothing,

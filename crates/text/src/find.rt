@@ -1,9 +1,9 @@
 // Where something stands in a text, and whether two texts are one.
 ghost use Rattle.std.specs.Prelude.{◌≤◌, length};
-ghost use Rattle.io.specs.Counts.{IsPrefixLen};
+ghost use Rattle.text.specs.Counts.{IsPrefixLen};
 
 // What is looked for: a line feed, the start of a comment, a space or line feed.
-#[derive(Drop)]
+#[derive(Clone, Copy)]
 pub enum What {
     Feed,
     Comment,

@@ -1,9 +1,11 @@
 // What the programs share that read and write text.
 #![tactic(auto)]
 
+pub mod args; // args.rt: the arguments of a program
 pub mod count; // count.rt: one more
 pub mod digits; // digits.rt: the value of a digit
 pub mod find; // find.rt: where something stands in a text
+pub mod input; // input.rt: what is read of a file
 pub mod number; // number.rt: what number a text is
 pub mod print; // print.rt: what is written to standard output
 pub mod quote; // quote.rt: a text of the input, shown

@@ -1,7 +1,7 @@
 // What number a text is: docs/LISTING.md and docs/NAMES.md have the forms.
 use crate::digits::{Number, value};
 
-#[derive(Drop)]
+#[derive(Clone, Copy)]
 enum Base {
     Ten,
     Sixteen,

@@ -1,5 +1,5 @@
 // A text shown as far as there is room for it: what stands in the input may be long, and may have bytes that are no letters.
-ghost use Rattle.io.specs.Counts.{IsPrefixLen};
+ghost use Rattle.text.specs.Counts.{IsPrefixLen};
 
 fn shown(b: u8) -> u8 {
     match b {
@@ -27,11 +27,11 @@ fn show(text: &[u8], most: usize, out: &mut [u8]) -> usize
 }
 
 // Writes the text's first bytes, at most so many and never more than 128, and `..` behind them where it is longer.
-pub fn quote(fd: i32, text: &[u8], most: usize) {
+pub fn quote(to: &impl Print, text: &[u8], most: usize) {
     let mut out = [0u8; 128];
     let n = show(text, most, &mut out);
-    io::write_all(fd, &out[..n]);
+    let _ = to.write_all(&out[..n]);
     if n < text.len() {
-        io::write_all(fd, b"..");
+        let _ = to.write_all(b"..");
     }
 }

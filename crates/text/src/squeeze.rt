@@ -1,6 +1,6 @@
 // What is left of a line without its comment, without the blanks before and after, and with one space for those between.
 ghost use Rattle.std.specs.Prelude.{◌+◌, ◌<◌, ◌≤◌, length};
-ghost use Rattle.io.specs.Counts.{IsPrefixLen};
+ghost use Rattle.text.specs.Counts.{IsPrefixLen};
 
 use crate::find::{What, blank, find};
 

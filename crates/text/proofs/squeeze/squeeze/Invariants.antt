@@ -1,0 +1,6 @@
+-- `text::squeeze::squeeze` meets its contract: each byte of the part puts at most one.
+use Rattle.std.proofs.Common.{◌≤◌}
+use Rattle.text.proofs.squeeze.squeeze.Given as goal
+
+abbrev pub invariant-loop-i : goal.invariant-loop-i
+invariant-loop-i l = l.n ≤ l.i

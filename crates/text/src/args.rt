@@ -1,0 +1,43 @@
+// The arguments that a program was started with, as bytes: number 0 is its own name.
+ghost use Rattle.text.specs.Counts.{IsPrefixLen};
+
+use std::env::{Env, FillError};
+
+// Puts argument i at the start of room and answers its length: 0 where it is missing, and where it is longer than room, which then has its first bytes.
+pub fn whole(rt: HostRuntime, i: usize, room: &mut [u8]) -> usize
+    ensures { IsPrefixLen result room.new }
+{
+    match rt.arg(i, room) {
+        Ok(n) => n,
+        Err(_) => 0,
+    }
+}
+
+// The same, but of one that is longer than room the first bytes are taken, as many as there is room for.
+pub fn beginning(rt: HostRuntime, i: usize, room: &mut [u8]) -> usize
+    ensures { IsPrefixLen result room.new }
+{
+    match rt.arg(i, room) {
+        Ok(n) => n,
+        Err(FillError::TooLong) => room.len(),
+        Err(FillError::NotPresent) => 0,
+    }
+}
+
+fn is_there(rt: HostRuntime, i: usize) -> bool {
+    let mut first = [0u8; 1];
+    match rt.arg(i, &mut first) {
+        Err(FillError::NotPresent) => false,
+        _ => true,
+    }
+}
+
+// How many there are.
+pub fn count(rt: HostRuntime) -> usize {
+    for i in 0..usize::MAX {
+        if !is_there(rt, i) {
+            return i;
+        }
+    }
+    usize::MAX
+}
