@@ -1,5 +1,5 @@
 -- The fields of an instruction word, and the side inputs. Document 01, "Fields of the word".
-use Rattle.std.specs.Prelude.{ℕ, ◌-◌, ◌/◌, ◌%◌, Bool, cond, ltb, eqb, ℤ, pos, ◌-ℤ◌}
+use Rattle.std.specs.Prelude.{ℕ, ◌/◌, ◌%◌, Bool, cond, ltb, eqb, ℤ, pos, ◌-ℤ◌}
 use Rattle.words.specs.declared.Fields.{Fields}
 use Rattle.words.specs.Second.{Second}
 use Rattle.words.specs.Second as S

@@ -9,14 +9,14 @@ ghost use Rattle.words.specs.Inner.Meant.{by_byte, moving, meant_d, sided_by, ma
 use terms::Refusal;
 
 // What an address is moved on by after the access.
-#[derive(Drop)]
+#[derive(Clone, Copy)]
 pub enum Increment {
     Register(u32),
     Immediate(i32),
 }
 
 // The operands of a load or store that then moves its address on: the word that they are cut from, and the increment.
-#[derive(Drop)]
+#[derive(Clone, Copy)]
 pub struct AccessAdd {
     pub bits: u32,
     pub inc: Increment,
@@ -24,7 +24,7 @@ pub struct AccessAdd {
 
 // The instructions, by the chapter's names, each with its word, and what it has from the side inputs: the register of SRC2S, the side mask
 // word. What each means is in specs/Meant.antt. All are 32-bit words at the same places, so that the compiler keeps them in registers.
-#[derive(Drop)]
+#[derive(Clone, Copy)]
 pub enum Insn {
     VminS(u32),
     VmaxS(u32),
@@ -71,14 +71,14 @@ pub enum Insn {
     Sts(u32),
 }
 
-#[derive(Drop)]
+#[derive(Clone, Copy)]
 pub enum Decoded {
     Insn(Insn),
     Refused(Refusal),
 }
 
 // Every field of a word, whichever of them its opcode uses.
-#[derive(Drop)]
+#[derive(Clone, Copy)]
 pub struct Fields {
     pub op: u8,
     pub dst: usize,
