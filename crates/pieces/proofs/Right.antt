@@ -1,5 +1,5 @@
 -- The right lengths and their test.
-use Rattle.std.proofs.Common.{◌≡◌, ℕ, Bool, true, false, cond, eqb, length, refl, ap, arith, eqb-true}
+use Rattle.std.proofs.Common.{◌≡◌, ℕ, Bool, true, false, cond, eqb, length, ap, arith, eqb-true}
 use Rattle.terms.proofs.Sums.{and_true}
 use Rattle.pieces.specs.State.{State, Sized, sized_of, lengths}
 

@@ -33,7 +33,7 @@ pub fn sized(ds: usize, a: usize, r: usize, c: usize, vc: usize, v: usize) -> bo
 }
 
 // The fields of an $a word.
-#[derive(Drop)]
+#[derive(Clone, Copy)]
 pub struct Base {
     pub addr: u16,
     pub limit: u16,
