@@ -9,7 +9,7 @@ pub mod scalar; // scalar.rt: vmin, vmax, vabs, vneg, vadd and vsub
 pub mod select; // select.rt: one of two bytes
 pub mod shifts; // shifts.rt: one shift
 
-#[derive(Drop)]
+#[derive(Clone, Copy)]
 pub enum Calc {
     Min,
     Max,
@@ -19,7 +19,7 @@ pub enum Calc {
     Sub,
 }
 
-#[derive(Drop)]
+#[derive(Clone, Copy)]
 pub enum Logic {
     And,
     Xor,

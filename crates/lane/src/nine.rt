@@ -5,7 +5,7 @@ ghost use Rattle.lane.specs.Lane.{add9_lane};
 use crate::select;
 
 // A saturated sum, and 255 where it was saturated.
-#[derive(Drop)]
+#[derive(Clone, Copy)]
 pub struct Saturated {
     pub byte: u8,
     pub top: u8,

@@ -5,7 +5,7 @@ ghost use Rattle.lane.specs.Lane.{shift_lane};
 use crate::select::either;
 
 // A shifted component: its low eight bits, and 0 where no bit was set before it was cut to them.
-#[derive(Drop)]
+#[derive(Clone, Copy)]
 pub struct Shifted {
     pub byte: u8,
     pub whole: u8,
