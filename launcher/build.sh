@@ -176,12 +176,10 @@ build() {
 # PROGRAM: has rt prove and build it, and keeps the sum of what it was built from and the name of the folder that has its loader.
 prove() {
     made_from=$(sources "$1")
-    # rt trusts its stamp without a look at the program: where that is missing, or is another than was built from all this, the stamp goes.
-    if [ ! -x "$bin" ] || [ "$(sed -n 1p "$state/$1.sum" 2>/dev/null)" = "$made_from" ]; then rm -f "$here/target/stamp/$1"; fi
     said=$state/said crates=$(crates_of "$1" | sed 's/:.*//')
     began=$(date +%s) spoke=0 news='' announced=''
     exec 6>"$said" 5>&6
-    grouped rt check "$1" || failed "$1"
+    grouped "$parts/prove" "$1" || failed "$1"
     [ -z "$announced" ] || say "$1 is proved and built, in $(spoken $(($(date +%s) - began)))"
     began=''
     printf '%s\n' "$tools" >"$state/tools"
@@ -190,9 +188,9 @@ prove() {
 
 # PROGRAM: says the first error, where all of it stands, and ends.
 failed() {
-    say "rt check $1 failed:"
+    say "launcher/prove $1 failed:"
     LC_ALL=C awk -f "$parts/error.awk" "$said" >&2
-    crate=$(sed -n 's/^rt: \([a-z0-9_]*\) NOT PROVED.*/\1/p' "$said" | head -n 1)
+    crate=$(sed -n 's/^rt: \([a-z0-9_]*\) NOT PROVED$/\1/p' "$said" | head -n 1)
     log=$said
     [ -z "$crate" ] || log=$here/target/log/$crate.out
     say "$1 is not run; all that was said stands in $log"

@@ -1,7 +1,7 @@
-# Reads what rt check said, and prints the first error and up to four lines below it; where there is none, the last five lines. Each line is cut to 300 bytes.
+# Reads what launcher/prove said, and prints the first error and up to four lines below it; where there is none, the last five lines. Each line is cut to 300 bytes.
 
 /: error[:[]/ { errors++ }
-errors && /^(rt:|fn|logic|library) / { errors = 2 } # the message is over
+errors && /^(rt:|fn|logic|library|crate) / { errors = 2 } # the message is over
 errors == 1 && shown++ < 5 { print cut($0) }
 !errors { last[NR % 5] = $0 }
 

@@ -37,8 +37,8 @@ build_program() {
 
 # Sets kit, the toolchain's folder; tools, what it has for this machine; and emulator, its emulator of x86-64: nothing where it has none, as on x86-64.
 find_tools() {
-    kit=$(dirname "$(dirname "$(rt doc)")")
-    tools=$kit/on/$(uname -m)/toolchain
+    kit=$(dirname "$(rt doc)")
+    tools=$kit/toolchain
     emulator=$tools/bin/qemu-x86_64
     [ -x "$emulator" ] || emulator=''
 }
