@@ -118,4 +118,4 @@ abbrev pub result_from : Counted → Pieces → Result
 result_from n p = record { counted = n; after = p }
 
 unfoldable pub result_of : Address → Pieces → Result
-result_of i p = result (counted_in i p.a) (addressed i p)
+result_of i p = result_from (counted_in i p.a) (addressed i p)
