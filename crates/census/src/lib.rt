@@ -4,7 +4,7 @@
 mod tally; // tally.rt: what one step adds to the figures
 
 ghost use Rattle.std.specs.Prelude.{◌≡◌, ◌%◌, length};
-ghost use Rattle.pieces.specs.State.{pieces, Sized};
+ghost use Rattle.pieces.specs.State.{state, Sized};
 ghost use Rattle.model.specs.Run.{triples};
 ghost use Rattle.model.specs.Census.{taken, census_of};
 ghost use Rattle.machine.specs.Answers.{run_outcome};
@@ -38,9 +38,9 @@ fn turns(
     per_bank: &mut [u64],
     per_way: &mut [u64],
 ) -> Ran
-    requires { Sized (pieces ds a r c vc v) × (length words.now % 3 ≡ 0) × Blank 16 per_bank.old × Blank 12 per_way.old }
-    ensures { taken (run_outcome result (pieces ds.exit a.exit r.exit c.exit vc.exit v.exit)) per_bank.new per_way.new
-        ≡ begun_of budget (triples words.now) (pieces ds.entry a.entry r.entry c.entry vc.entry v.entry) }
+    requires { Sized (state ds.old a.old r.old c.old vc.old v.old) × (length words.now % 3 ≡ 0) × Blank 16 per_bank.old × Blank 12 per_way.old }
+    ensures { taken (run_outcome result (state ds.new a.new r.new c.new vc.new v.new)) per_bank.new per_way.new
+        ≡ begun_of budget (triples words.now) (state ds.old a.old r.old c.old vc.old v.old) }
 {
     let end = machine::covered(words.len(), budget);
     let mut counts = terms::no_counts();
@@ -71,8 +71,8 @@ pub fn run(
     per_bank: &mut [u64],
     per_way: &mut [u64],
 ) -> Ran
-    ensures { taken (run_outcome result (pieces ds.exit a.exit r.exit c.exit vc.exit v.exit)) per_bank.new per_way.new
-        ≡ census_of budget words.now (pieces ds.entry a.entry r.entry c.entry vc.entry v.entry) per_bank.old per_way.old }
+    ensures { taken (run_outcome result (state ds.new a.new r.new c.new vc.new v.new)) per_bank.new per_way.new
+        ≡ census_of budget words.now (state ds.old a.old r.old c.old vc.old v.old) per_bank.old per_way.old }
 {
     if (per_bank.len() != 16) | (per_way.len() != 12) {
         return machine::report(End::Lengths, 0, terms::no_counts());

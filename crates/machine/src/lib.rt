@@ -2,7 +2,7 @@
 #![tactic(auto)]
 
 ghost use Rattle.std.specs.Prelude.{◌≡◌, cond, ◌%◌, ltb, length};
-ghost use Rattle.pieces.specs.State.{pieces, Sized};
+ghost use Rattle.pieces.specs.State.{state, Sized};
 ghost use Rattle.model.specs.Step.{step_of};
 ghost use Rattle.model.specs.Run.{triples, run_from, run_of};
 ghost use Rattle.terms.specs.Counts.{none};
@@ -59,9 +59,9 @@ fn turns(
     vc: &mut [u32],
     v: &mut [u8],
 ) -> Ran
-    requires { Sized (pieces ds a r c vc v) × (length words.now % 3 ≡ 0) }
-    ensures { run_outcome result (pieces ds.exit a.exit r.exit c.exit vc.exit v.exit)
-        ≡ run_from budget (triples words.now) 0 none (pieces ds.entry a.entry r.entry c.entry vc.entry v.entry) }
+    requires { Sized (state ds.old a.old r.old c.old vc.old v.old) × (length words.now % 3 ≡ 0) }
+    ensures { run_outcome result (state ds.new a.new r.new c.new vc.new v.new)
+        ≡ run_from budget (triples words.now) 0 none (state ds.old a.old r.old c.old vc.old v.old) }
 {
     let end = covered(words.len(), budget);
     let mut counts = terms::no_counts();
@@ -95,8 +95,8 @@ pub fn run(
     vc: &mut [u32],
     v: &mut [u8],
 ) -> Ran
-    ensures { run_outcome result (pieces ds.exit a.exit r.exit c.exit vc.exit v.exit)
-        ≡ run_of budget words.now (pieces ds.entry a.entry r.entry c.entry vc.entry v.entry) }
+    ensures { run_outcome result (state ds.new a.new r.new c.new vc.new v.new)
+        ≡ run_of budget words.now (state ds.old a.old r.old c.old vc.old v.old) }
 {
     let sized = pieces::sized(ds.len(), a.len(), r.len(), c.len(), vc.len(), v.len());
     let whole = words.len() % 3 == 0;
@@ -118,8 +118,8 @@ pub fn step(
     vc: &mut [u32],
     v: &mut [u8],
 ) -> Stepped
-    ensures { step_outcome result (pieces ds.exit a.exit r.exit c.exit vc.exit v.exit)
-        ≡ step_of word side mask (pieces ds.entry a.entry r.entry c.entry vc.entry v.entry) }
+    ensures { step_outcome result (state ds.new a.new r.new c.new vc.new v.new)
+        ≡ step_of word side mask (state ds.old a.old r.old c.old vc.old v.old) }
 {
     let words = [word, side, mask];
     let x = run(&words, 1, ds, a, r, c, vc, v);

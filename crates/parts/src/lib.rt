@@ -6,7 +6,7 @@ mod stream; // stream.rt: whole triples, a buffer at a time
 pub mod sixteen; // sixteen.rt: the state as sixteen words, for C
 
 ghost use Rattle.std.specs.Prelude.{◌≡◌, cond, ◌<◌, eqb};
-ghost use Rattle.pieces.specs.State.{pieces, Sized};
+ghost use Rattle.pieces.specs.State.{state, Sized};
 ghost use Rattle.model.specs.Parts.{begun, fed, part_of, end_of};
 ghost use Rattle.parts.specs.Run.{answer_of, sound, meant_by, struct_of, given, handed};
 ghost use Rattle.parts.specs.Inner.Feed.{Open, open_of, going_by, kept_by, closing};
@@ -134,9 +134,9 @@ fn feed(
     vc: &mut [u32],
     v: &mut [u8],
 ) -> Run
-    requires { Sized (pieces ds a r c vc v) × Open x }
-    ensures { given result (pieces ds.exit a.exit r.exit c.exit vc.exit v.exit)
-        ≡ handed (fed bytes.now (open_of x) (pieces ds.entry a.entry r.entry c.entry vc.entry v.entry)) }
+    requires { Sized (state ds.old a.old r.old c.old vc.old v.old) × Open x }
+    ensures { given result (state ds.new a.new r.new c.new vc.new v.new)
+        ≡ handed (fed bytes.now (open_of x) (state ds.old a.old r.old c.old vc.old v.old)) }
 {
     let have = x.count as usize;
     let need = 12 - have;
@@ -171,8 +171,8 @@ pub fn part(
     vc: &mut [u32],
     v: &mut [u8],
 ) -> Run
-    ensures { given result (pieces ds.exit a.exit r.exit c.exit vc.exit v.exit)
-        ≡ handed (part_of bytes.now (meant_by run) (pieces ds.entry a.entry r.entry c.entry vc.entry v.entry)) }
+    ensures { given result (state ds.new a.new r.new c.new vc.new v.new)
+        ≡ handed (part_of bytes.now (meant_by run) (state ds.old a.old r.old c.old vc.old v.old)) }
 {
     let x = read(run);
     if x.over {

@@ -1,6 +1,6 @@
 // Whole triples as bytes, one after the other: a buffer of words at a time, so that the machine's own loop does the steps.
 ghost use Rattle.std.specs.Prelude.{◌≡◌, true, not, ◌+◌, ◌<◌, ◌≤◌, eqb};
-ghost use Rattle.pieces.specs.State.{pieces, Sized};
+ghost use Rattle.pieces.specs.State.{state, Sized};
 ghost use Rattle.terms.specs.Answers.{number};
 ghost use Rattle.terms.specs.Counts.{plus, Within};
 ghost use Rattle.terms.specs.Inner.Runs.{most};
@@ -49,9 +49,9 @@ pub fn one(
     vc: &mut [u32],
     v: &mut [u8],
 ) -> Ran
-    requires { Sized (pieces ds a r c vc v) × (from.steps ≤ budget) × Within from.steps from.counts × (eqb (number from.end) 0 ≡ true) }
-    ensures { run_outcome result (pieces ds.exit a.exit r.exit c.exit vc.exit v.exit)
-        ≡ onward budget (triples (words_of bytes)) (run_outcome from (pieces ds.entry a.entry r.entry c.entry vc.entry v.entry)) }
+    requires { Sized (state ds.old a.old r.old c.old vc.old v.old) × (from.steps ≤ budget) × Within from.steps from.counts × (eqb (number from.end) 0 ≡ true) }
+    ensures { run_outcome result (state ds.new a.new r.new c.new vc.new v.new)
+        ≡ onward budget (triples (words_of bytes)) (run_outcome from (state ds.old a.old r.old c.old vc.old v.old)) }
 {
     let words = triple(bytes);
     let x = machine::run(&words, budget - from.steps, ds, a, r, c, vc, v);
@@ -77,9 +77,9 @@ pub fn stream(
     vc: &mut [u32],
     v: &mut [u8],
 ) -> Ran
-    requires { Sized (pieces ds a r c vc v) × (from.steps ≤ budget) × Within from.steps from.counts }
-    ensures { run_outcome result (pieces ds.exit a.exit r.exit c.exit vc.exit v.exit)
-        ≡ onward budget (triples (words_of bytes.now)) (run_outcome from (pieces ds.entry a.entry r.entry c.entry vc.entry v.entry)) }
+    requires { Sized (state ds.old a.old r.old c.old vc.old v.old) × (from.steps ≤ budget) × Within from.steps from.counts }
+    ensures { run_outcome result (state ds.new a.new r.new c.new vc.new v.new)
+        ≡ onward budget (triples (words_of bytes.now)) (run_outcome from (state ds.old a.old r.old c.old vc.old v.old)) }
 {
     let whole = bytes.len() / 12 * 12;
     let mut words = [0u32; 480];

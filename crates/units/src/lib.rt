@@ -2,7 +2,7 @@
 #![tactic(auto)]
 
 ghost use Rattle.std.specs.Prelude.{◌≡◌};
-ghost use Rattle.pieces.specs.State.{pieces, Sized};
+ghost use Rattle.pieces.specs.State.{state, Sized};
 ghost use Rattle.units.specs.Inner.Answers.{answered, answered_of, refused_of};
 
 use terms::{Answer, Counted, Refusal};
@@ -30,9 +30,9 @@ pub fn triple(
     vc: &mut [u32],
     v: &mut [u8],
 ) -> Answer
-    requires { Sized (pieces ds a r c vc v) }
-    ensures { answered result (pieces ds.exit a.exit r.exit c.exit vc.exit v.exit)
-        ≡ answered_of word side mask (pieces ds.entry a.entry r.entry c.entry vc.entry v.entry) }
+    requires { Sized (state ds.old a.old r.old c.old vc.old v.old) }
+    ensures { answered result (state ds.new a.new r.new c.new vc.new v.new)
+        ≡ answered_of word side mask (state ds.old a.old r.old c.old vc.old v.old) }
 {
     let d = words::decode(word, side, mask);
     let Decoded::Insn(i) = d else {

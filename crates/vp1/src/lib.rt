@@ -2,7 +2,7 @@
 #![tactic(auto)]
 
 ghost use Rattle.std.specs.Prelude.{◌≡◌};
-ghost use Rattle.pieces.specs.State.{pieces};
+ghost use Rattle.pieces.specs.State.{state};
 ghost use Rattle.model.specs.Step.{outcome, step_of};
 ghost use Rattle.model.specs.Run.{ended, run_of};
 ghost use Rattle.terms.specs.Counts.{counts, none};
@@ -25,8 +25,8 @@ pub extern "C" fn vp1_step(
     accesses: &mut u64,
     clipped: &mut u64,
 ) -> u32
-    ensures { outcome result (counts accesses.new clipped.new) (pieces ds.exit a.exit r.exit c.exit vc.exit v.exit)
-        ≡ step_of word side mask (pieces ds.entry a.entry r.entry c.entry vc.entry v.entry) }
+    ensures { outcome result (counts accesses.new clipped.new) (state ds.new a.new r.new c.new vc.new v.new)
+        ≡ step_of word side mask (state ds.old a.old r.old c.old vc.old v.old) }
 {
     let x = machine::step(word, side, mask, ds, a, r, c, vc, v);
     *accesses = x.counts.accesses;
@@ -50,8 +50,8 @@ pub extern "C" fn vp1_run(
     accesses: &mut u64,
     clipped: &mut u64,
 ) -> u32
-    ensures { ended result steps.new (counts accesses.new clipped.new) (pieces ds.exit a.exit r.exit c.exit vc.exit v.exit)
-        ≡ run_of budget words.now (pieces ds.entry a.entry r.entry c.entry vc.entry v.entry) }
+    ensures { ended result steps.new (counts accesses.new clipped.new) (state ds.new a.new r.new c.new vc.new v.new)
+        ≡ run_of budget words.now (state ds.old a.old r.old c.old vc.old v.old) }
 {
     let x = machine::run(words, budget, ds, a, r, c, vc, v);
     *steps = x.steps;
@@ -90,8 +90,8 @@ pub extern "C" fn vp1_part(
     clipped: &mut u64,
 ) -> u32
     ensures { part_told (told result steps.new (counts accesses.new clipped.new) run.new)
-        (pieces ds.exit a.exit r.exit c.exit vc.exit v.exit)
-        ≡ part_call bytes.now run.old (pieces ds.entry a.entry r.entry c.entry vc.entry v.entry) }
+        (state ds.new a.new r.new c.new vc.new v.new)
+        ≡ part_call bytes.now run.old (state ds.old a.old r.old c.old vc.old v.old) }
 {
     if run.len() != 16 {
         *steps = 0;
