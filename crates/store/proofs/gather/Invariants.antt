@@ -1,0 +1,8 @@
+-- The loop fills the column from its start, with the place at hand.
+use Rattle.store.specs.Inner.Steps.{stepped}
+use Rattle.store.proofs.Loops.{Filled}
+use Rattle.store.proofs.Steps.{Going}
+use Rattle.store.proofs.gather.Given as goal
+
+abbrev pub invariant-loop-i : goal.invariant-loop-i
+invariant-loop-i l = Going l.first l.step l.last l.i l.at × Filled l.ds (stepped l.first l.step) l.i l.out
