@@ -1,9 +1,9 @@
 // What the arguments say: a word, a stride code, a way, an address.
 use terms::Way;
-use text::digits;
+use text::{args, digits};
 
 // A way, if the argument names one.
-#[derive(Drop)]
+#[derive(Clone, Copy)]
 pub enum Asked {
     Known(Way),
     Unknown,
@@ -25,30 +25,30 @@ fn same(a: &[u8], b: &[u8]) -> bool {
 }
 
 // Whether argument i is a word of up to ten bytes.
-pub fn is(i: usize, word: &[u8]) -> bool {
+pub fn is(rt: HostRuntime, i: usize, word: &[u8]) -> bool {
     let mut arg = [0u8; 10];
-    let n = os::arg(i, &mut arg);
+    let n = args::whole(rt, i, &mut arg);
     same(&arg[..n], word)
 }
 
 // The value of a single digit, or 16.
-pub fn code(i: usize) -> usize {
+pub fn code(rt: HostRuntime, i: usize) -> usize {
     let mut digit = [0u8; 1];
-    if os::arg(i, &mut digit) == 1 {
+    if args::whole(rt, i, &mut digit) == 1 {
         digits::value(digit[0]) as usize
     } else {
         16
     }
 }
 
-pub fn way(i: usize) -> Asked {
-    if is(i, b"horizontal") {
+pub fn way(rt: HostRuntime, i: usize) -> Asked {
+    if is(rt, i, b"horizontal") {
         return Asked::Known(Way::Horizontal);
     }
-    if is(i, b"vertical") {
+    if is(rt, i, b"vertical") {
         return Asked::Known(Way::Vertical);
     }
-    if is(i, b"scalar") {
+    if is(rt, i, b"scalar") {
         return Asked::Known(Way::Scalar);
     }
     Asked::Unknown
@@ -71,9 +71,9 @@ fn number(text: &[u8]) -> usize {
 }
 
 // The address, or a number above all addresses.
-pub fn address(i: usize) -> usize {
+pub fn address(rt: HostRuntime, i: usize) -> usize {
     let mut arg = [0u8; 6];
-    let n = os::arg(i, &mut arg);
+    let n = args::whole(rt, i, &mut arg);
     if n > 2 && arg[0] == b'0' && arg[1] == b'x' {
         return number(&arg[2..n]);
     }

@@ -3,6 +3,7 @@ ghost use Rattle.std.specs.Prelude.{◌≤◌, ◌<◌};
 
 use crate::svg::put;
 use crate::{access, svg};
+use std::io::Stdout;
 use terms::Way;
 use text::print;
 use text::print::text;
@@ -23,46 +24,48 @@ fn right(code: usize) -> usize
     110 + 20 * width(code)
 }
 
-fn name(way: Way, code: usize, addr: usize)
+fn name(out: Stdout, way: Way, code: usize, addr: usize)
     requires { code < 4 }
 {
     match way {
-        Way::Horizontal => text(b"Horizontal"),
-        Way::Vertical => text(b"Vertical"),
-        Way::Scalar => text(b"Scalar"),
+        Way::Horizontal => text(out, b"Horizontal"),
+        Way::Vertical => text(out, b"Vertical"),
+        Way::Scalar => text(out, b"Scalar"),
     }
-    text(b" load at ");
-    svg::address(addr);
-    put(b" under stride code ", code, b" (");
-    svg::stride(code);
-    text(b" bytes)");
+    text(out, b" load at ");
+    svg::address(out, addr);
+    put(out, b" under stride code ", code, b" (");
+    svg::stride(out, code);
+    text(out, b" bytes)");
 }
 
-fn titles(code: usize)
+fn titles(out: Stdout, code: usize)
     requires { code < 4 }
 {
     put(
+        out,
         b"<text x=\"",
         110 + 10 * width(code),
         b"\" y=\"74\" text-anchor=\"middle\" font-size=\"16\">column (address mod ",
     );
-    svg::stride(code);
+    svg::stride(out, code);
     text(
+        out,
         b")</text>\n<text x=\"30\" y=\"270\" transform=\"rotate(-90 30 270)\" text-anchor=\"middle\" font-size=\"16\">",
     );
-    text(b"row (its first address)</text>\n");
+    text(out, b"row (its first address)</text>\n");
 }
 
-fn columns(code: usize)
+fn columns(out: Stdout, code: usize)
     requires { code < 4 }
 {
-    text(b"<g text-anchor=\"middle\" font-size=\"12\">\n");
+    text(out, b"<g text-anchor=\"middle\" font-size=\"12\">\n");
     for c in 0..width(code) {
-        put(b"<text x=\"", 120 + 20 * c, b"\" y=\"102\">");
-        print::number(c as u64);
-        text(b"</text>\n");
+        put(out, b"<text x=\"", 120 + 20 * c, b"\" y=\"102\">");
+        print::number(out, c as u64);
+        text(out, b"</text>\n");
     }
-    text(b"</g>\n");
+    text(out, b"</g>\n");
 }
 
 // The first address of row r. The block that the load lies in has zeros where the row's number goes.
@@ -72,64 +75,65 @@ fn first(code: usize, addr: usize, r: usize) -> usize
     addr & 0x1fff << (8 + code) | r << (4 + code)
 }
 
-fn rows(code: usize, addr: usize)
+fn rows(out: Stdout, code: usize, addr: usize)
     requires { code < 4 }
 {
-    text(b"<g text-anchor=\"end\">\n");
+    text(out, b"<g text-anchor=\"end\">\n");
     for r in 0..16 {
-        put(b"<text x=\"102\" y=\"", 125 + 20 * r, b"\">");
-        svg::address(first(code, addr, r));
-        text(b"</text>\n");
+        put(out, b"<text x=\"102\" y=\"", 125 + 20 * r, b"\">");
+        svg::address(out, first(code, addr, r));
+        text(out, b"</text>\n");
     }
-    text(b"</g>\n");
+    text(out, b"</g>\n");
 }
 
-fn lines_across(code: usize)
+fn lines_across(out: Stdout, code: usize)
     requires { code < 4 }
 {
     for r in 1..16 {
-        put(b"M110 ", 110 + 20 * r, b"H");
-        put(b"", right(code), b"");
+        put(out, b"M110 ", 110 + 20 * r, b"H");
+        put(out, b"", right(code), b"");
     }
 }
 
 // The line on the left of column c.
-fn line_down(c: usize)
+fn line_down(out: Stdout, c: usize)
     requires { c < 128 }
 {
-    put(b"M", 110 + 20 * c, b" 110V430");
+    put(out, b"M", 110 + 20 * c, b" 110V430");
 }
 
-fn lines_down(code: usize)
+fn lines_down(out: Stdout, code: usize)
     requires { code < 4 }
 {
     for c in 1..width(code) {
-        line_down(c);
+        line_down(out, c);
     }
 }
 
 // At every sixteenth column, since a row of sixteen bytes starts there.
-fn bars(code: usize)
+fn bars(out: Stdout, code: usize)
     requires { code < 4 }
 {
     for k in 1..width(code) / 16 {
-        line_down(16 * k);
+        line_down(out, 16 * k);
     }
 }
 
-fn grid(code: usize)
+fn grid(out: Stdout, code: usize)
     requires { code < 4 }
 {
-    text(b"<path d=\"");
-    lines_across(code);
-    lines_down(code);
+    text(out, b"<path d=\"");
+    lines_across(out, code);
+    lines_down(out, code);
     put(
+        out,
         b"\" stroke=\"#d0d0d0\"/>\n<path d=\"M110 110H",
         right(code),
         b"V430H110Z",
     );
-    bars(code);
-    text(b"\" fill=\"none\" stroke=\"#606060\"/>\n");
+    bars(out, code);
+    text(out, b"\" fill=\"none\" stroke=\"#606060\"/>\n");
 }
 
 fn column(code: usize, a: usize) -> usize
@@ -143,37 +147,37 @@ fn column(code: usize, a: usize) -> usize
     }
 }
 
-fn square(code: usize, a: usize)
+fn square(out: Stdout, code: usize, a: usize)
     requires { (code < 4) × (a < 8192) }
 {
     let x = 111 + 20 * column(code, a);
     let y = 111 + 20 * ((a >> (4 + code)) % 16);
     let bank = banks::bank(code, a);
-    svg::square(x, y, 18, bank);
-    svg::bank(x + 9, y + 13, bank);
+    svg::square(out, x, y, 18, bank);
+    svg::bank(out, x + 9, y + 13, bank);
 }
 
-fn squares(way: Way, code: usize, addr: usize)
+fn squares(out: Stdout, way: Way, code: usize, addr: usize)
     requires { code < 4 }
 {
-    text(b"<g text-anchor=\"middle\" font-size=\"12\">\n");
+    text(out, b"<g text-anchor=\"middle\" font-size=\"12\">\n");
     for i in 0..access::count(way) {
-        square(code, access::address(way, code, addr, i));
+        square(out, code, access::address(way, code, addr, i));
     }
-    text(b"</g>\n");
+    text(out, b"</g>\n");
 }
 
 // The halves of a cell, by their bits.
-fn names(seen: u32) {
+fn names(out: Stdout, seen: u32) {
     match seen {
-        1 => text(b"low"),
-        2 => text(b"high"),
-        _ => text(b"low and high"),
+        1 => text(out, b"low"),
+        2 => text(out, b"high"),
+        _ => text(out, b"low and high"),
     }
 }
 
 // The line of a bank, number n of the list, if the bank is entered: one more line, or none.
-fn entry(way: Way, code: usize, addr: usize, bank: usize, n: usize) -> usize
+fn entry(out: Stdout, way: Way, code: usize, addr: usize, bank: usize, n: usize) -> usize
     requires { (code < 4) × (n < 16) }
     ensures { result ≤ 1 }
 {
@@ -181,60 +185,71 @@ fn entry(way: Way, code: usize, addr: usize, bank: usize, n: usize) -> usize
     if seen == 0 {
         return 0;
     }
-    svg::square(right(code) + 20, 111 + 20 * n, 18, bank);
-    put(b"<text x=\"", right(code) + 46, b"\" y=\"");
-    put(b"", 125 + 20 * n, b"\">bank ");
-    put(b"", bank, b": cell ");
-    put(b"", access::cell(way, code, addr, bank), b", ");
-    names(seen);
-    text(b"</text>\n");
+    svg::square(out, right(code) + 20, 111 + 20 * n, 18, bank);
+    put(out, b"<text x=\"", right(code) + 46, b"\" y=\"");
+    put(out, b"", 125 + 20 * n, b"\">bank ");
+    put(out, b"", bank, b": cell ");
+    put(out, b"", access::cell(way, code, addr, bank), b", ");
+    names(out, seen);
+    text(out, b"</text>\n");
     1
 }
 
 // Lists the banks that are entered, and says how many there are.
-fn list(way: Way, code: usize, addr: usize) -> usize
+fn list(out: Stdout, way: Way, code: usize, addr: usize) -> usize
     requires { code < 4 }
     ensures { result ≤ 16 }
 {
     let mut n = 0;
     for bank in 0..16 {
-        n += entry(way, code, addr, bank, n);
+        n += entry(out, way, code, addr, bank, n);
     }
     n
 }
 
-fn counts(way: Way, code: usize, entered: usize)
+fn counts(out: Stdout, way: Way, code: usize, entered: usize)
     requires { (code < 4) × (entered ≤ 16) }
 {
-    put(b"<text x=\"", right(code) + 20, b"\" y=\"");
-    put(b"", 135 + 20 * entered, b"\">");
-    put(b"", access::count(way), b" addresses, ");
-    put(b"", entered, b" banks, ");
-    put(b"", banks::cells(way, code) as usize, b" cells</text>\n");
+    put(out, b"<text x=\"", right(code) + 20, b"\" y=\"");
+    put(out, b"", 135 + 20 * entered, b"\">");
+    put(out, b"", access::count(way), b" addresses, ");
+    put(out, b"", entered, b" banks, ");
+    put(
+        out,
+        b"",
+        banks::cells(way, code) as usize,
+        b" cells</text>\n",
+    );
 }
 
-fn caption(x: usize) {
-    put(b"<text x=\"", x, b"\" y=\"490\" text-anchor=\"middle\">");
+fn caption(out: Stdout, x: usize) {
+    put(
+        out,
+        b"<text x=\"",
+        x,
+        b"\" y=\"490\" text-anchor=\"middle\">",
+    );
     text(
+        out,
         b"A marked square is an address of the load; the number and the colour are its bank.</text>\n",
     );
 }
 
-pub fn picture(way: Way, code: usize, addr: usize)
+pub fn picture(out: Stdout, way: Way, code: usize, addr: usize)
     requires { code < 4 }
 {
     let wide = right(code) + 290;
-    svg::begin(wide, 510);
-    name(way, code, addr);
-    svg::headline(wide / 2);
-    name(way, code, addr);
-    text(b"</text>\n");
-    titles(code);
-    columns(code);
-    rows(code, addr);
-    grid(code);
-    squares(way, code, addr);
-    counts(way, code, list(way, code, addr));
-    caption(wide / 2);
-    text(b"</svg>\n");
+    svg::begin(out, wide, 510);
+    name(out, way, code, addr);
+    svg::headline(out, wide / 2);
+    name(out, way, code, addr);
+    text(out, b"</text>\n");
+    titles(out, code);
+    columns(out, code);
+    rows(out, code, addr);
+    grid(out, code);
+    squares(out, way, code, addr);
+    counts(out, way, code, list(out, way, code, addr));
+    caption(out, wide / 2);
+    text(out, b"</svg>\n");
 }

@@ -9,43 +9,44 @@ mod map;
 mod svg;
 
 use crate::args::Asked;
-use libc::STDERR_FILENO;
+use std::io::Stderr;
+use text::say::say;
 
-fn usage() {
-    io::write_all(
-        STDERR_FILENO,
+fn usage(err: Stderr) {
+    say(
+        err,
         b"usage: plot [map CODE | load WAY CODE ADDRESS]: CODE 0 to 3, WAY horizontal, vertical or scalar, ADDRESS 0x0 to 0x1fff\n",
     );
 }
 
-fn draw_map() {
-    let code = args::code(2);
-    if args::is(1, b"map") && code < 4 {
-        map::picture(code);
+fn draw_map(rt: HostRuntime) {
+    let code = args::code(rt, 2);
+    if args::is(rt, 1, b"map") && code < 4 {
+        map::picture(rt.stdout(), code);
     } else {
-        usage();
+        usage(rt.stderr());
     }
 }
 
-fn draw_load() {
-    let Asked::Known(way) = args::way(2) else {
-        usage();
+fn draw_load(rt: HostRuntime) {
+    let Asked::Known(way) = args::way(rt, 2) else {
+        usage(rt.stderr());
         return;
     };
-    let code = args::code(3);
-    let addr = args::address(4);
-    if args::is(1, b"load") && code < 4 && addr < args::NOWHERE {
-        load::picture(way, code, addr);
+    let code = args::code(rt, 3);
+    let addr = args::address(rt, 4);
+    if args::is(rt, 1, b"load") && code < 4 && addr < args::NOWHERE {
+        load::picture(rt.stdout(), way, code, addr);
     } else {
-        usage();
+        usage(rt.stderr());
     }
 }
 
-fn main() {
-    match os::arg_count() {
-        0 | 1 => curve::picture(),
-        3 => draw_map(),
-        5 => draw_load(),
-        _ => usage(),
+fn main(rt: HostRuntime) {
+    match text::args::count(rt) {
+        0 | 1 => curve::picture(rt.stdout()),
+        3 => draw_map(rt),
+        5 => draw_load(rt),
+        _ => usage(rt.stderr()),
     }
 }
