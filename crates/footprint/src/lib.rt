@@ -14,20 +14,21 @@ mod list; // list.rt: a list of numbers, and with places of one kind more
 mod vector; // vector.rt: what each kind of the vector unit's operands reads and writes
 
 // The numbers of some places: the first `count` of the array are meant.
-#[derive(Drop)]
+#[derive(Clone, Copy)]
 pub struct Numbers {
     pub numbers: [u32; 22],
     pub count: usize,
 }
 
 // What an instruction touches: the first `reads` of the list are read, the others written.
-#[derive(Drop)]
+#[derive(Clone, Copy)]
 pub struct Touches {
     pub list: Numbers,
     pub reads: usize,
 }
 
 // What an instruction touches, where the registers that it names are there, as a decoded word's are.
+#[tactic(auto, unfolding(words::specs::Inner::Meant::meant, words::specs::Inner::Bounded::BoundedA))]
 pub fn footprint(i: Insn, a: &[u32]) -> Touches
     requires { (length a.now ≡ 32) × Bounded (meant i) }
     ensures { result ≡ footprint_of (meant i) (lent a.now) }
