@@ -3,10 +3,11 @@ use mathlib.Core.Path.{◌≡◌, refl}
 use mathlib.Core.Bool.{Bool, true, false, cond}
 use mathlib.Core.List.{List}
 use Prim.Native.Nat.{ℕ, zero, suc, ◌+◌, ◌%◌, ◌≤◌, ◌<◌}
+use native.Mathlib.Numerals.{add-one}
 use native.Mathlib.Omega.{arith}
 use lib.Dec.{eqb}
 use lib.ListN.{get_or}
-use borrow.Author.Tests.{eq-eqb}
+use borrow.Author.Tests.{eq-eqb, eqb-true, eqb-false}
 use Rattle.bits.specs.Bitop.{bit}
 use Rattle.lanes.specs.Lanes.{listed, flags, how_many}
 use Rattle.lanes.specs.Inner.Unpacked.{tally_of}
@@ -45,6 +46,21 @@ odd w h false = refl
 pub tallied : (w : ℕ) → w % 2 ≡ 1 → (f : ℕ → Bool) {l : List ℕ} → l ≡ listed 16 (λ i. cond (f i) w 0) → tally_of l ≡ how_many 16 f
 unfolding tally_of
 tallied w h f {l} e = many_same 16 (λ i. eqb (get_or l i 0 % 2) 1) f (λ i u. rw (element _ e i u) (odd w h (f i)))
+
+-- bytes that are odd, counted one by one
+abbrev pub odds : List ℕ → ℕ → Bool
+odds t i = eqb (get_or t i 0 % 2) 1
+
+added : (x : ℕ) → x % 2 ≡ cond (eqb (x % 2) 1) 1 0
+added x = go (eqb (x % 2) 1) refl
+  where
+    go : (t : Bool) → eqb (x % 2) 1 ≡ t → x % 2 ≡ cond t 1 0
+    go true e = eqb-true (x % 2) 1 e
+    go false e = let h = eqb-false (x % 2) 1 e in omega arith
+
+pub odds_more : (t : List ℕ) (i n : ℕ) → n ≡ how_many i (odds t) → n + get_or t i 0 % 2 ≡ how_many (i + 1) (odds t)
+unfolding how_many
+odds_more t i n e = rw (add-one i) (omega (arith, e, added (get_or t i 0)))
 
 -- the bits that are set of packed flags
 digit : (t : Bool) → eqb (cond t 1 0) 1 ≡ t

@@ -8,7 +8,7 @@ pub mod shuffle; // shuffle.rt: vswz
 
 // A result whose flags are not packed yet: component i's zero flag is set where tested[i] is 0, its sign flag is bit 7 of tops[i].
 // So flags cost nothing where they are not written. What is clipped is counted always.
-#[derive(Drop)]
+#[derive(Clone, Copy)]
 pub struct Unpacked {
     pub bytes: [u8; 16],
     pub tested: [u8; 16],
@@ -17,7 +17,7 @@ pub struct Unpacked {
 }
 
 // The flags alone, where no register is written.
-#[derive(Drop)]
+#[derive(Clone, Copy)]
 pub struct Flags {
     pub signs: u16,
     pub zeros: u16,
