@@ -9,7 +9,7 @@ use lib.Bits.{bit_xor, xor_self, xor_add_and, and_le_l, and_le_r}
 use lib.Dec.{eqb, ltb, leb}
 use lib.ListN.{get_or}
 use lib.Pow.{mod-pow-add}
-use borrow.Author.Tests.{ltb-true, ltb-false, eqb-true, eqb-false, eq-eqb, ne_eqb}
+use borrow.Author.Tests.{eqb-true, eqb-false, eq-eqb, ne_eqb}
 use Rattle.bits.specs.Bitop.{bit, bitop}
 use Rattle.lane.specs.Lane.{Lane, apart, cmpad_lane}
 use Rattle.lanes.specs.declared.Flags.{Flags}

@@ -1,0 +1,12 @@
+-- `loops::clamp::signs` meets its contract, by the loop law of the bytes.
+use Rattle.lanes.proofs.Loop.{made_start, made_more, made_all}
+use Rattle.loops.proofs.clamp.signs.Goals as goal
+
+pub loop-i-init : goal.loop-i-init
+loop-i-init c = made_start
+
+pub loop-i-preserved : goal.loop-i-preserved
+loop-i-preserved c = made_more c.loop-i.invariant c.loop-i-test.true c.sign.ensures
+
+pub returns : goal.returns
+returns c = made_all c.loop-i.invariant c.loop-i-test.false
