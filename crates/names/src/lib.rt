@@ -20,21 +20,21 @@ use crate::table::{name_of, next_named};
 use terms::{End, Refusal};
 
 // What writing hands back: why it stopped, and the line's length, 0 where nothing is written.
-#[derive(Drop)]
+#[derive(Clone, Copy)]
 pub struct Written {
     pub end: End,
     pub length: u32,
 }
 
 // What reading hands back: why it stopped, and the word, 0 where none is read.
-#[derive(Drop)]
+#[derive(Clone, Copy)]
 pub struct Read {
     pub end: End,
     pub word: u32,
 }
 
 // Where the reader is: the word so far, the place in the text, and how many texts come after it.
-#[derive(Drop)]
+#[derive(Clone, Copy)]
 pub struct Place {
     pub word: u32,
     pub at: usize,

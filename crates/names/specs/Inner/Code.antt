@@ -1,5 +1,5 @@
 -- What the code's own values stand for.
-use Rattle.std.specs.Prelude.{ℕ, zero, suc, ◌+◌, ◌*◌, ◌-◌, ◌/◌, ◌%◌, ◌^◌, Bool, cond, ◌&&◌, List, [], ◌∷◌, ◌++◌, ltb, eqb, drop, get_or}
+use Rattle.std.specs.Prelude.{ℕ, zero, suc, ◌+◌, ◌*◌, ◌/◌, ◌%◌, ◌^◌, Bool, cond, ◌&&◌, List, [], ◌∷◌, ◌++◌, ltb, eqb, drop, get_or}
 use Rattle.names.specs.Inner.Scan.{meant, candidate}
 use Rattle.names.specs.Line.{digit, Kind, number, flags, signed, lohi, allvc, Operand, shown, text_of, value_of}
 use Rattle.names.specs.Calls.{eqs, up_to, some, first, written_as}

@@ -1,0 +1,25 @@
+-- `names::find::tried` meets its contract: the candidate's line is compared with the text.
+use mathlib.Core.Path.{◌≡◌, ap, ◌∙◌, sym, subst}
+use mathlib.Core.List.{List}
+use Prim.Native.Nat.{ℕ}
+use native.Mathlib.Omega.{arith}
+use lib.Dec.{T}
+use lib.ListN.{take}
+use Rattle.names.specs.Table.{documented, op_of, line_of}
+use Rattle.names.specs.Calls.{eqs}
+use Rattle.names.specs.Inner.Scan.{candidate}
+use Rattle.names.proofs.Reading.{candidate_known, tried_line, tried_wrong}
+use Rattle.names.proofs.find.tried.Goals as goal
+
+pub spelt-n-requires : goal.spelt-n-requires
+spelt-n-requires c = (omega arith, subst (λ (w : ℕ). T (documented (op_of w))) (sym c.candidate-w.ensures) (candidate_known c.args.text.now c.args.op (omega arith) c.requires.2))
+
+pub returns-then-same : goal.returns-then-same
+returns-then-same c =
+    let q : take c.spelt-n.result c.spelt-n.new.l ≡ line_of (candidate c.args.op c.args.text.now) = c.spelt-n.ensures.1 ∙ ap line_of c.candidate-w.ensures in
+    c.candidate-w.ensures ∙ tried_line c.args.text.now c.args.op c.requires.2 (ap (λ (l : List ℕ). eqs l c.args.text.now) (sym q) ∙ sym c.same.ensures ∙ c.if-same.true)
+
+pub returns : goal.returns
+returns c =
+    let q : take c.spelt-n.result c.spelt-n.new.l ≡ line_of (candidate c.args.op c.args.text.now) = c.spelt-n.ensures.1 ∙ ap line_of c.candidate-w.ensures in
+    tried_wrong c.args.text.now c.args.op (ap (λ (l : List ℕ). eqs l c.args.text.now) (sym q) ∙ sym c.same.ensures ∙ c.if-same.false)

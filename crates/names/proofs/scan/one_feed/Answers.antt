@@ -1,0 +1,17 @@
+-- `names::scan::one_feed` meets its contract: what is left of the text decides.
+use mathlib.Core.Path.{refl, ◌∙◌, sym}
+use native.Mathlib.Omega.{arith}
+use Rattle.names.proofs.Scans.{feed_here, feed_on, feed_end}
+use Rattle.names.proofs.scan.one_feed.Goals as goal
+
+pub loop-i-init : goal.loop-i-init
+loop-i-init c = (omega arith, refl)
+
+pub returns-then-text-i-eq10 : goal.returns-then-text-i-eq10
+returns-then-text-i-eq10 c = sym (feed_here c.args.text.now c.loop-i.i (omega arith) c.if-text-i-eq10.true) ∙ c.loop-i.invariant.1
+
+pub loop-i-preserved : goal.loop-i-preserved
+loop-i-preserved c = (omega arith, sym (feed_on c.args.text.now c.loop-i.i (omega arith) c.if-text-i-eq10.false) ∙ c.loop-i.invariant.1)
+
+pub returns : goal.returns
+returns c = sym (feed_end c.args.text.now c.loop-i.i (omega arith) (omega arith)) ∙ c.loop-i.invariant.1
