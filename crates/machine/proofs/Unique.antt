@@ -7,7 +7,7 @@ use denote.Triple.Entry.{Args}
 use Rattle.terms.proofs.Inverse.{number_inj}
 use Rattle.terms.specs.declared.Counts.{Counts}
 use Rattle.terms.specs.declared.End.{End}
-use Rattle.pieces.specs.State.{State, pieces}
+use Rattle.pieces.specs.State.{State, state}
 use Rattle.model.specs.Step.{Outcome}
 use Rattle.model.specs.Run.{RunOutcome}
 use Rattle.machine.specs.Inner.Turns.{ran_of}
@@ -22,8 +22,8 @@ use Rattle.machine.proofs.run.Reads as RR
 
 abbrev stepped : (κs : Lfts 6) → AtExit P.ended κs → State
 stepped κs e =
-    pieces e.1.1.1.0 e.1.1.1.1.0 e.1.1.1.1.1.0 e.1.1.1.1.1.1.0 e.1.1.1.1.1.1.1.0
-    e.1.1.1.1.1.1.1.1.0
+    state e.1.1.1.0.now e.1.1.1.1.0.now e.1.1.1.1.1.0.now e.1.1.1.1.1.1.0.now e.1.1.1.1.1.1.1.0.now
+    e.1.1.1.1.1.1.1.1.0.now
 
 pub one_step : (κs : Lfts 6) (args : Args P.signature κs) (x y : Stepped) (e f : AtExit P.ended κs) → PR.Post κs args x e → PR.Post κs args y f
     → (x ≡ y) × (stepped κs e ≡ stepped κs f)
@@ -36,7 +36,7 @@ one_step κs args x y e f h k =
 
 abbrev ran : (κs : Lfts 7) → AtExit R.ended κs → State
 ran κs e =
-    pieces e.1.1.0 e.1.1.1.0 e.1.1.1.1.0 e.1.1.1.1.1.0 e.1.1.1.1.1.1.0 e.1.1.1.1.1.1.1.0
+    state e.1.1.0.now e.1.1.1.0.now e.1.1.1.1.0.now e.1.1.1.1.1.0.now e.1.1.1.1.1.1.0.now e.1.1.1.1.1.1.1.0.now
 
 pub one_run : (κs : Lfts 7) (args : Args R.signature κs) (x y : Ran) (e f : AtExit R.ended κs) → RR.Post κs args x e → RR.Post κs args y f
     → (x ≡ y) × (ran κs e ≡ ran κs f)

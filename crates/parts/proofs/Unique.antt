@@ -4,7 +4,7 @@ use mathlib.Core.Path.{◌≡◌, sym, ◌∙◌, ap}
 use contract.Lifetimes.{Lfts}
 use denote.Triple.Clauses.{AtExit}
 use denote.Triple.Entry.{Args}
-use Rattle.pieces.specs.State.{State, pieces}
+use Rattle.pieces.specs.State.{State, state}
 use Rattle.parts.specs.Run.{Handed}
 use Rattle.parts.specs.declared.Run.{Run}
 use Rattle.parts.specs.contracts.begin as B
@@ -19,7 +19,7 @@ one_begin κs args x y e f h k = h ∙ sym k
 
 -- the six pieces at exit are the last six parameters
 abbrev fed : (κs : Lfts 7) → AtExit P.ended κs → State
-fed κs e = pieces e.1.1.0 e.1.1.1.0 e.1.1.1.1.0 e.1.1.1.1.1.0 e.1.1.1.1.1.1.0 e.1.1.1.1.1.1.1.0
+fed κs e = state e.1.1.0.now e.1.1.1.0.now e.1.1.1.1.0.now e.1.1.1.1.1.0.now e.1.1.1.1.1.1.0.now e.1.1.1.1.1.1.1.0.now
 
 pub one_part : (κs : Lfts 7) (args : Args P.signature κs) (x y : Run) (e f : AtExit P.ended κs) → PR.Post κs args x e → PR.Post κs args y f
     → (x ≡ y) × (fed κs e ≡ fed κs f)

@@ -5,7 +5,7 @@ use contract.Lifetimes.{Lfts}
 use denote.Triple.Clauses.{AtExit}
 use denote.Triple.Entry.{Args}
 use Rattle.terms.specs.declared.Answer.{Answer}
-use Rattle.pieces.specs.State.{State, pieces}
+use Rattle.pieces.specs.State.{State, state}
 use Rattle.units.specs.Inner.Answers.{Answered}
 use Rattle.units.specs.contracts.triple as T
 use Rattle.units.proofs.triple.Reads as TR
@@ -13,8 +13,8 @@ use Rattle.units.proofs.triple.Reads as TR
 -- the six pieces at exit are its last six parameters
 abbrev after : (κs : Lfts 6) → AtExit T.ended κs → State
 after κs e =
-    pieces e.1.1.1.0 e.1.1.1.1.0 e.1.1.1.1.1.0 e.1.1.1.1.1.1.0 e.1.1.1.1.1.1.1.0
-    e.1.1.1.1.1.1.1.1.0
+    state e.1.1.1.0.now e.1.1.1.1.0.now e.1.1.1.1.1.0.now e.1.1.1.1.1.1.0.now e.1.1.1.1.1.1.1.0.now
+    e.1.1.1.1.1.1.1.1.0.now
 
 pub one_triple : (κs : Lfts 6) (args : Args T.signature κs) (x y : Answer) (e f : AtExit T.ended κs) → TR.Post κs args x e → TR.Post κs args y f
     → (x ≡ y) × (after κs e ≡ after κs f)

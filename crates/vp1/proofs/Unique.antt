@@ -8,7 +8,7 @@ use denote.Triple.Clauses.{AtExit}
 use denote.Triple.Entry.{Args}
 use Rattle.terms.specs.Counts.{counts}
 use Rattle.terms.specs.declared.Counts.{Counts}
-use Rattle.pieces.specs.State.{State, pieces}
+use Rattle.pieces.specs.State.{State, state}
 use Rattle.model.specs.Step.{Outcome}
 use Rattle.model.specs.Run.{RunOutcome}
 use Rattle.parts.specs.Words.{Told, PartTold}
@@ -28,8 +28,8 @@ use Rattle.vp1.proofs.vp1_end.Reads as ER
 module _ (κs : Lfts 8) (e : AtExit S.ended κs) where
   abbrev stepped : State
   stepped =
-      pieces e.1.1.1.0 e.1.1.1.1.0 e.1.1.1.1.1.0 e.1.1.1.1.1.1.0 e.1.1.1.1.1.1.1.0
-      e.1.1.1.1.1.1.1.1.0
+      state e.1.1.1.0.now e.1.1.1.1.0.now e.1.1.1.1.1.0.now e.1.1.1.1.1.1.0.now e.1.1.1.1.1.1.1.0.now
+      e.1.1.1.1.1.1.1.1.0.now
 
   abbrev counted : Counts
   counted = counts e.1.1.1.1.1.1.1.1.1.0.now e.1.1.1.1.1.1.1.1.1.1.0.now
@@ -44,8 +44,8 @@ one_step κs args n m e f h k =
 module _ (κs : Lfts 10) (e : AtExit R.ended κs) where
   abbrev ran : State
   ran =
-      pieces e.1.1.0 e.1.1.1.0 e.1.1.1.1.0 e.1.1.1.1.1.0 e.1.1.1.1.1.1.0
-      e.1.1.1.1.1.1.1.0
+      state e.1.1.0.now e.1.1.1.0.now e.1.1.1.1.0.now e.1.1.1.1.1.0.now e.1.1.1.1.1.1.0.now
+      e.1.1.1.1.1.1.1.0.now
 
   abbrev steps : ℕ
   steps = e.1.1.1.1.1.1.1.1.0.now
@@ -74,7 +74,7 @@ one_begin κs args n m e f h k = let q = h ∙ sym k in (ap (λ (t : Told). t.nu
 module _ (κs : Lfts 11) (e : AtExit P.ended κs) where
   abbrev fed : State
   fed =
-      pieces e.1.0 e.1.1.0 e.1.1.1.0 e.1.1.1.1.0 e.1.1.1.1.1.0 e.1.1.1.1.1.1.0
+      state e.1.0.now e.1.1.0.now e.1.1.1.0.now e.1.1.1.1.0.now e.1.1.1.1.1.0.now e.1.1.1.1.1.1.0.now
 
   abbrev kept : List ℕ
   kept = e.1.1.1.1.1.1.1.0.now
