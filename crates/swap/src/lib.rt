@@ -17,28 +17,28 @@ use words::Decoded;
 mod clash; // clash.rt: the first place of one list that is in another
 
 // The first place of one list that is in another.
-#[derive(Drop)]
+#[derive(Clone, Copy)]
 enum Found {
     At(u32),
     Nowhere,
 }
 
 // A clash: the place, and which of the two writes it.
-#[derive(Drop)]
+#[derive(Clone, Copy)]
 pub enum Verdict {
     Free,
     Clash(u32, u32),
 }
 
 // The answer of `may_swap`: Free where it is refused.
-#[derive(Drop)]
+#[derive(Clone, Copy)]
 pub struct Swap {
     pub end: End,
     pub verdict: Verdict,
 }
 
 // The answer of `places`: how many are read, and how many written, 0 where it is refused.
-#[derive(Drop)]
+#[derive(Clone, Copy)]
 pub struct Listed {
     pub end: End,
     pub reads: u32,
