@@ -1,3 +1,4 @@
 -- The laws that the proofs of the functions rest on, and that only one outcome fits a call.
 pub mod Turn
+pub mod Loop
 pub mod Unique

@@ -12,14 +12,14 @@ ghost use Rattle.machine.specs.Inner.Turns.{covered_by, ran_of};
 use terms::{Answer, Counts, End};
 
 // What the single call came to.
-#[derive(Drop)]
+#[derive(Clone, Copy)]
 pub struct Stepped {
     pub end: End,
     pub counts: Counts,
 }
 
 // What a list call came to.
-#[derive(Drop)]
+#[derive(Clone, Copy)]
 pub struct Ran {
     pub end: End,
     pub steps: u32,
