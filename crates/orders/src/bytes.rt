@@ -7,20 +7,20 @@ use text::digits::Number;
 use text::number::{byte, number};
 
 // What the texts are to be.
-#[derive(Drop)]
+#[derive(Clone, Copy)]
 pub enum Item {
     Byte,
     Number,
 }
 
-#[derive(Drop)]
+#[derive(Clone, Copy)]
 pub enum Counted {
     Is(usize),
     Wrong(Fault),
 }
 
 // Where the first of sixteen bytes or numbers stands.
-#[derive(Drop)]
+#[derive(Clone, Copy)]
 pub enum First {
     At(usize),
     Wrong(Fault),

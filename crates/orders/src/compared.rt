@@ -37,7 +37,7 @@ fn banks(line: &[u8], at: usize) -> Expected {
 }
 
 // The lines of one number.
-#[derive(Drop)]
+#[derive(Clone, Copy)]
 enum Which {
     Answer,
     Steps,

@@ -10,7 +10,7 @@ use text::digits::Number;
 use text::number::byte;
 
 // The first texts of such lines.
-#[derive(Drop)]
+#[derive(Clone, Copy)]
 enum Dot {
     Set,
     Bytes,

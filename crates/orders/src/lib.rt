@@ -17,7 +17,7 @@ mod value; // value.rt: numbers and their bounds
 pub mod word; // word.rt: the line of a word
 
 // An instruction word, its side index and its side mask word.
-#[derive(Drop)]
+#[derive(Clone, Copy)]
 pub struct Triple {
     pub word: u32,
     pub side: u32,
@@ -25,7 +25,7 @@ pub struct Triple {
 }
 
 // The registers that are words of 32 bits.
-#[derive(Drop)]
+#[derive(Clone, Copy)]
 pub enum Kind {
     A,
     R,
@@ -34,7 +34,7 @@ pub enum Kind {
 }
 
 // The parts of these registers that have names; Whole is all bits, which have none.
-#[derive(Drop)]
+#[derive(Clone, Copy)]
 pub enum Field {
     Addr,
     Limit,
@@ -48,7 +48,7 @@ pub enum Field {
 }
 
 // Bits of the register n of a kind: those of mask have this value, in their places.
-#[derive(Drop)]
+#[derive(Clone, Copy)]
 pub struct Part {
     pub kind: Kind,
     pub n: usize,
@@ -57,7 +57,7 @@ pub struct Part {
 }
 
 // What can be shown: a register, or bytes of the store. Row and Column have the stride code, 0 to 3, and the address; Cells the bank and the first cell.
-#[derive(Drop)]
+#[derive(Clone, Copy)]
 pub enum Subject {
     Word(Kind, usize),
     Vector(usize),
@@ -69,7 +69,7 @@ pub enum Subject {
 
 // What a line of a listing asks for. SetVector has the register, and where in the line the first of its bytes stands, for `bytes::sixteen`; Bytes has
 // the stride code, the first address, and where in the line the first of its bytes stands, for `bytes::byte_at`. The bytes are good.
-#[derive(Drop)]
+#[derive(Clone, Copy)]
 pub enum Order {
     Nothing,
     Step(Triple),
@@ -86,7 +86,7 @@ pub enum Order {
 
 // What a line that is compared expects. Sixteen and Banks have the place in the line of the first byte or number, for `bytes::sixteen` and
 // `bytes::banks`; all are good.
-#[derive(Drop)]
+#[derive(Clone, Copy)]
 pub enum Expected {
     Nothing,
     Part(Part),
@@ -100,7 +100,7 @@ pub enum Expected {
 }
 
 // Where in the line something is wrong, and what was expected.
-#[derive(Drop)]
+#[derive(Clone, Copy)]
 pub struct Fault {
     pub from: usize,
     pub to: usize,
@@ -108,7 +108,7 @@ pub struct Fault {
 }
 
 // What was expected: a message of the page for each.
-#[derive(Drop)]
+#[derive(Clone, Copy)]
 pub enum Wanted {
     Dot,
     StartDot,
@@ -148,14 +148,14 @@ pub enum Wanted {
 }
 
 // A byte of a line, and the place of the text behind it.
-#[derive(Drop)]
+#[derive(Clone, Copy)]
 pub struct ByteAt {
     pub byte: u8,
     pub next: usize,
 }
 
 // What the word's line is: its length with its line feed, 0 where the word is refused by the answer.
-#[derive(Drop)]
+#[derive(Clone, Copy)]
 pub struct Spelt {
     pub answer: u32,
     pub length: usize,

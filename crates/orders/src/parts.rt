@@ -6,20 +6,20 @@ use crate::{Fault, Field, Kind, Part, Wanted};
 use text::digits::Number;
 use text::number::number;
 
-#[derive(Drop)]
+#[derive(Clone, Copy)]
 pub enum Held {
     Is(Part),
     Wrong(Fault),
 }
 
 // Bits of a word, in their places: those of mask have this value.
-#[derive(Drop)]
+#[derive(Clone, Copy)]
 struct Bits {
     mask: u32,
     value: u32,
 }
 
-#[derive(Drop)]
+#[derive(Clone, Copy)]
 enum One {
     Is(Bits),
     Wrong(Fault),

@@ -5,7 +5,7 @@ use crate::Kind;
 use text::digits::Number;
 use text::number::number;
 
-#[derive(Drop)]
+#[derive(Clone, Copy)]
 pub enum Register {
     Word(Kind, usize),
     Vector(usize),

@@ -5,7 +5,7 @@ use crate::value::{Value, address, strided, up_to};
 use crate::{Fault, Subject, Wanted};
 
 // What stands at a place, and the place behind it.
-#[derive(Drop)]
+#[derive(Clone, Copy)]
 pub enum Sought {
     Is(Subject, usize),
     Nothing,

@@ -8,7 +8,7 @@ use text::digits::Number;
 use text::number::word;
 use text::squeeze::clean;
 
-#[derive(Drop)]
+#[derive(Clone, Copy)]
 enum Instruction {
     Is(u32),
     Wrong(Wanted),

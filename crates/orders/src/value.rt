@@ -4,7 +4,7 @@ use crate::{Fault, Wanted};
 use text::digits::Number;
 use text::number::number;
 
-#[derive(Drop)]
+#[derive(Clone, Copy)]
 pub enum Value {
     Is(u32),
     Wrong(Fault),

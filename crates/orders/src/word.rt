@@ -1,7 +1,8 @@
 // The line of a word.
-ghost use Rattle.io.specs.Counts.{IsPrefixLen};
+ghost use Rattle.text.specs.Counts.{IsPrefixLen};
 
 use crate::Spelt;
+use text::count::at_most;
 
 // The line of a word, with its line feed. 64 bytes are room enough for any.
 pub fn spell(word: u32, out: &mut [u8]) -> Spelt
@@ -11,6 +12,6 @@ pub fn spell(word: u32, out: &mut [u8]) -> Spelt
     let end = w.end;
     Spelt {
         answer: terms::number(end),
-        length: io::count(w.length as isize, out),
+        length: at_most(w.length as usize, out),
     }
 }

@@ -3,6 +3,7 @@ ghost use Rattle.std.specs.Prelude.{◌<◌};
 
 use crate::figures::numbered;
 use crate::places::{in_store, index_of};
+use std::io::Stdout;
 use text::count::one_more;
 use text::print::text;
 
@@ -54,14 +55,14 @@ pub fn count(banks: &mut [u32; 16], places: &[u32; 22]) {
     }
 }
 
-fn print_count(n: u32) {
-    numbered(b" ", n as u64);
+fn print_count(out: Stdout, n: u32) {
+    numbered(out, b" ", n as u64);
 }
 
-pub fn print_banks(banks: &[u32; 16]) {
-    text(b"banks");
+pub fn print_banks(out: Stdout, banks: &[u32; 16]) {
+    text(out, b"banks");
     for i in 0..16 {
-        print_count(banks[i]);
+        print_count(out, banks[i]);
     }
-    text(b"\n");
+    text(out, b"\n");
 }

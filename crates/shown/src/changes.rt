@@ -8,6 +8,7 @@ use crate::places::{NOWHERE, Place, in_store, index_of, place_of};
 use crate::registers::{named, vector_named, vector_of, word_of};
 use crate::subjects::bytes_of;
 use orders::{Field, Kind, Subject};
+use std::io::Stdout;
 use text::find::same;
 use text::print::text;
 
@@ -125,65 +126,65 @@ pub fn note(
 
 // ---- after it: registers
 
-fn part_change(kind: Kind, n: usize, part: Field, old: u32, new: u32) {
+fn part_change(out: Stdout, kind: Kind, n: usize, part: Field, old: u32, new: u32) {
     if !parts::differs(part, old, new) {
         return;
     }
-    text(b"  ");
-    named(kind, n);
-    parts::change(part, old, new);
-    text(b"\n");
+    text(out, b"  ");
+    named(out, kind, n);
+    parts::change(out, part, old, new);
+    text(out, b"\n");
 }
 
-fn address_change(n: usize, high: bool, old: u32, new: u32) {
+fn address_change(out: Stdout, n: usize, high: bool, old: u32, new: u32) {
     if high {
-        part_change(Kind::A, n, Field::Limit, old, new);
-        part_change(Kind::A, n, Field::Stride, old, new);
+        part_change(out, Kind::A, n, Field::Limit, old, new);
+        part_change(out, Kind::A, n, Field::Stride, old, new);
         return;
     }
-    part_change(Kind::A, n, Field::Addr, old, new);
+    part_change(out, Kind::A, n, Field::Addr, old, new);
 }
 
-fn flags_change(n: usize, high: bool, old: u32, new: u32) {
+fn flags_change(out: Stdout, n: usize, high: bool, old: u32, new: u32) {
     if high {
-        part_change(Kind::C, n, Field::End, old, new);
+        part_change(out, Kind::C, n, Field::End, old, new);
         return;
     }
-    part_change(Kind::C, n, Field::Sign, old, new);
-    part_change(Kind::C, n, Field::Zero, old, new);
+    part_change(out, Kind::C, n, Field::Sign, old, new);
+    part_change(out, Kind::C, n, Field::Zero, old, new);
 }
 
-fn vector_flags_change(n: usize, high: bool, old: u32, new: u32) {
+fn vector_flags_change(out: Stdout, n: usize, high: bool, old: u32, new: u32) {
     if high {
-        part_change(Kind::Vc, n, Field::Zeros, old, new);
+        part_change(out, Kind::Vc, n, Field::Zeros, old, new);
         return;
     }
-    part_change(Kind::Vc, n, Field::Signs, old, new);
+    part_change(out, Kind::Vc, n, Field::Signs, old, new);
 }
 
-fn half_change(kind: Kind, n: usize, high: bool, old: u32, new: u32) {
+fn half_change(out: Stdout, kind: Kind, n: usize, high: bool, old: u32, new: u32) {
     match kind {
-        Kind::A => address_change(n, high, old, new),
-        Kind::R => part_change(Kind::R, n, Field::Whole, old, new),
-        Kind::C => flags_change(n, high, old, new),
-        Kind::Vc => vector_flags_change(n, high, old, new),
+        Kind::A => address_change(out, n, high, old, new),
+        Kind::R => part_change(out, Kind::R, n, Field::Whole, old, new),
+        Kind::C => flags_change(out, n, high, old, new),
+        Kind::Vc => vector_flags_change(out, n, high, old, new),
     }
 }
 
-fn vector_change(n: usize, old: &[u8], new: &[u8]) {
+fn vector_change(out: Stdout, n: usize, old: &[u8], new: &[u8]) {
     if same(old, new) {
         return;
     }
-    text(b"  ");
-    vector_named(n);
-    bytes_change(old, new);
+    text(out, b"  ");
+    vector_named(out, n);
+    bytes_change(out, old, new);
 }
 
 // The bytes of the store have one line for all.
-fn change(place: u32, old: u32, new: u32, vector: &[u8], v: &[u8]) {
+fn change(out: Stdout, place: u32, old: u32, new: u32, vector: &[u8], v: &[u8]) {
     match place_of(place) {
-        Place::Half(kind, n, high) => half_change(kind, n, high, old, new),
-        Place::Vector(n) => vector_change(n, vector, vector_of(v, n)),
+        Place::Half(kind, n, high) => half_change(out, kind, n, high, old, new),
+        Place::Vector(n) => vector_change(out, n, vector, vector_of(v, n)),
         _ => {}
     }
 }
@@ -217,41 +218,51 @@ fn stored(places: &[u32; 22]) -> usize
 }
 
 // An access of so many bytes by its first two addresses: those of a row lie in one row.
-fn store_access(n: usize, first: usize, second: usize, code: usize) {
+fn store_access(out: Stdout, n: usize, first: usize, second: usize, code: usize) {
     if n == 4 {
-        access(b"word ", first, code);
+        access(out, b"word ", first, code);
     } else if first / 16 == second / 16 {
-        access(b"row ", first, code);
+        access(out, b"row ", first, code);
     } else {
-        access(b"column ", first, code);
+        access(out, b"column ", first, code);
     }
 }
 
-fn store_change(places: &[u32; 22], old: &[u32; 22], new: &[u32; 22], code: usize) {
+fn store_change(out: Stdout, places: &[u32; 22], old: &[u32; 22], new: &[u32; 22], code: usize) {
     let n = stored(places);
     let x = as_bytes(old);
     let y = as_bytes(new);
     if same(&x[0..n], &y[0..n]) {
         return;
     }
-    text(b"  ");
+    text(out, b"  ");
     store_access(
+        out,
         n,
         address_of(index_of(places[0]) as usize, code),
         address_of(index_of(places[1]) as usize, code),
         code,
     );
-    bytes_change(&x[0..n], &y[0..n]);
+    bytes_change(out, &x[0..n], &y[0..n]);
 }
 
 // The lines of what the step has changed.
-pub fn changes(before: Noted, ds: &[u8], a: &[u32], r: &[u32], c: &[u32], vc: &[u32], v: &[u8]) {
+pub fn changes(
+    out: Stdout,
+    before: Noted,
+    ds: &[u8],
+    a: &[u32],
+    r: &[u32],
+    c: &[u32],
+    vc: &[u32],
+    v: &[u8],
+) {
     let places = before.places;
     let old = before.old;
     let vector = before.vector;
     let new = words_at(&places, ds, a, r, c, vc);
-    store_change(&places, &old, &new, before.code);
+    store_change(out, &places, &old, &new, before.code);
     for i in 0..22 {
-        change(places[i], old[i], new[i], &vector, v);
+        change(out, places[i], old[i], new[i], &vector, v);
     }
 }

@@ -2,7 +2,7 @@
 use orders::Kind;
 
 // Half of a register, and whether it is the high one; of $r it is the whole. A vector. A byte of the store, by its index.
-#[derive(Drop)]
+#[derive(Clone, Copy)]
 pub enum Place {
     Half(Kind, usize, bool),
     Vector(usize),

@@ -2,63 +2,64 @@
 use crate::figures::{all_are, bytes, numbered};
 use crate::parts::show;
 use orders::{Field, Kind};
+use std::io::Stdout;
 use text::print::text;
 
-fn address(word: u32) {
-    show(Field::Addr, word);
-    show(Field::Limit, word);
-    show(Field::Stride, word);
+fn address(out: Stdout, word: u32) {
+    show(out, Field::Addr, word);
+    show(out, Field::Limit, word);
+    show(out, Field::Stride, word);
 }
 
 // Where bits are set that have no name the parts would not say all.
-fn flags(word: u32) {
+fn flags(out: Stdout, word: u32) {
     if word & 0xfffff8ff != 0 {
-        show(Field::Whole, word);
+        show(out, Field::Whole, word);
         return;
     }
-    show(Field::Sign, word);
-    show(Field::Zero, word);
-    show(Field::End, word);
+    show(out, Field::Sign, word);
+    show(out, Field::Zero, word);
+    show(out, Field::End, word);
 }
 
-fn vector_flags(word: u32) {
-    show(Field::Signs, word);
-    show(Field::Zeros, word);
+fn vector_flags(out: Stdout, word: u32) {
+    show(out, Field::Signs, word);
+    show(out, Field::Zeros, word);
 }
 
 // `$a3`: the name of a register.
-pub fn named(kind: Kind, n: usize) {
+pub fn named(out: Stdout, kind: Kind, n: usize) {
     match kind {
-        Kind::A => numbered(b"$a", n as u64),
-        Kind::R => numbered(b"$r", n as u64),
-        Kind::C => numbered(b"$c", n as u64),
-        Kind::Vc => numbered(b"$vc", n as u64),
+        Kind::A => numbered(out, b"$a", n as u64),
+        Kind::R => numbered(out, b"$r", n as u64),
+        Kind::C => numbered(out, b"$c", n as u64),
+        Kind::Vc => numbered(out, b"$vc", n as u64),
     }
 }
 
 // The register n of a kind, which holds this value.
-pub fn word(kind: Kind, n: usize, value: u32) {
-    named(kind, n);
+pub fn word(out: Stdout, kind: Kind, n: usize, value: u32) {
+    named(out, kind, n);
     match kind {
-        Kind::A => address(value),
-        Kind::R => show(Field::Whole, value),
-        Kind::C => flags(value),
-        Kind::Vc => vector_flags(value),
+        Kind::A => address(out, value),
+        Kind::R => show(out, Field::Whole, value),
+        Kind::C => flags(out, value),
+        Kind::Vc => vector_flags(out, value),
     }
-    text(b"\n");
+    text(out, b"\n");
 }
 
 // `$v3 `, which its bytes follow.
-pub fn vector_named(n: usize) {
-    numbered(b"$v", n as u64);
-    text(b" ");
+pub fn vector_named(out: Stdout, n: usize) {
+    numbered(out, b"$v", n as u64);
+    text(out, b" ");
 }
 
 // The register n of $v, which holds these bytes.
-pub fn vector(n: usize, value: &[u8]) {
-    vector_named(n);
-    bytes(value);
-    text(b"\n");
+pub fn vector(out: Stdout, n: usize, value: &[u8]) {
+    vector_named(out, n);
+    bytes(out, value);
+    text(out, b"\n");
 }
 
 fn at(words: &[u32], n: usize) -> u32 {
@@ -98,28 +99,28 @@ pub fn vector_of(v: &[u8], n: usize) -> &[u8] {
 }
 
 // Those of a kind that are not 0, or all.
-fn words(all: bool, kind: Kind, values: &[u32]) {
+fn words(out: Stdout, all: bool, kind: Kind, values: &[u32]) {
     for n in 0..values.len() {
         if all || values[n] != 0 {
-            word(kind, n, values[n]);
+            word(out, kind, n, values[n]);
         }
     }
 }
 
-fn vectors(all: bool, v: &[u8]) {
+fn vectors(out: Stdout, all: bool, v: &[u8]) {
     for n in 0..32 {
         let value = vector_of(v, n);
         if all || !all_are(value, 0) {
-            vector(n, value);
+            vector(out, n, value);
         }
     }
 }
 
 // The registers that are not 0, or all.
-pub fn registers(all: bool, a: &[u32], r: &[u32], c: &[u32], vc: &[u32], v: &[u8]) {
-    words(all, Kind::A, a);
-    words(all, Kind::R, r);
-    words(all, Kind::C, c);
-    words(all, Kind::Vc, vc);
-    vectors(all, v);
+pub fn registers(out: Stdout, all: bool, a: &[u32], r: &[u32], c: &[u32], vc: &[u32], v: &[u8]) {
+    words(out, all, Kind::A, a);
+    words(out, all, Kind::R, r);
+    words(out, all, Kind::C, c);
+    words(out, all, Kind::Vc, vc);
+    vectors(out, all, v);
 }

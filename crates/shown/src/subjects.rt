@@ -3,6 +3,7 @@ use crate::figures::{access, all_are, bytes, numbered};
 use crate::registers;
 use crate::registers::{sixteen, vector_named, vector_of, word_of};
 use orders::Subject;
+use std::io::Stdout;
 use terms::Way;
 use text::print::text;
 
@@ -51,63 +52,72 @@ pub fn bytes_of(s: Subject, ds: &[u8], v: &[u8]) -> [u8; 16] {
 }
 
 // The first address of a row or a column, and its stride.
-fn access_of(name: &[u8], way: Way, code: usize, addr: usize) {
+fn access_of(out: Stdout, name: &[u8], way: Way, code: usize, addr: usize) {
     if code < 4 {
-        access(name, banks::start(way, code, addr), code);
+        access(out, name, banks::start(way, code, addr), code);
     }
 }
 
-fn cells_of(bank: usize, cell: usize) {
-    numbered(b"bank ", bank as u64);
-    numbered(b" cell ", cell as u64);
-    text(b" ");
+fn cells_of(out: Stdout, bank: usize, cell: usize) {
+    numbered(out, b"bank ", bank as u64);
+    numbered(out, b" cell ", cell as u64);
+    text(out, b" ");
 }
 
-fn heading(s: Subject) {
+fn heading(out: Stdout, s: Subject) {
     match s {
-        Subject::Vector(n) => vector_named(n),
-        Subject::Row(code, addr) => access_of(b"row ", Way::Horizontal, code, addr),
-        Subject::Column(code, addr) => access_of(b"column ", Way::Vertical, code, addr),
-        Subject::Cells(bank, cell) => cells_of(bank, cell),
+        Subject::Vector(n) => vector_named(out, n),
+        Subject::Row(code, addr) => access_of(out, b"row ", Way::Horizontal, code, addr),
+        Subject::Column(code, addr) => access_of(out, b"column ", Way::Vertical, code, addr),
+        Subject::Cells(bank, cell) => cells_of(out, bank, cell),
         _ => {}
     }
 }
 
 // The line of what has sixteen bytes.
-fn line(s: Subject, ds: &[u8], v: &[u8]) {
-    heading(s);
+fn line(out: Stdout, s: Subject, ds: &[u8], v: &[u8]) {
+    heading(out, s);
     let held = bytes_of(s, ds, v);
-    bytes(&held);
-    text(b"\n");
+    bytes(out, &held);
+    text(out, b"\n");
 }
 
 // The same where not all are 0, and whether it is so.
-fn line_if(s: Subject, ds: &[u8], v: &[u8]) -> bool {
+fn line_if(out: Stdout, s: Subject, ds: &[u8], v: &[u8]) -> bool {
     let held = bytes_of(s, ds, v);
     if all_are(&held, 0) {
         return false;
     }
-    line(s, ds, v);
+    line(out, s, ds, v);
     true
 }
 
-fn bank(b: usize, ds: &[u8], v: &[u8]) {
+fn bank(out: Stdout, b: usize, ds: &[u8], v: &[u8]) {
     let mut empty = true;
     for g in 0..32 {
-        if line_if(Subject::Cells(b, g * 8), ds, v) {
+        if line_if(out, Subject::Cells(b, g * 8), ds, v) {
             empty = false;
         }
     }
     if empty {
-        line(Subject::Cells(b, 0), ds, v);
+        line(out, Subject::Cells(b, 0), ds, v);
     }
 }
 
 // The line or lines of a subject.
-pub fn subject(s: Subject, ds: &[u8], a: &[u32], r: &[u32], c: &[u32], vc: &[u32], v: &[u8]) {
+pub fn subject(
+    out: Stdout,
+    s: Subject,
+    ds: &[u8],
+    a: &[u32],
+    r: &[u32],
+    c: &[u32],
+    vc: &[u32],
+    v: &[u8],
+) {
     match s {
-        Subject::Word(kind, n) => registers::word(kind, n, word_of(kind, n, a, r, c, vc)),
-        Subject::Bank(b) => bank(b, ds, v),
-        _ => line(s, ds, v),
+        Subject::Word(kind, n) => registers::word(out, kind, n, word_of(kind, n, a, r, c, vc)),
+        Subject::Bank(b) => bank(out, b, ds, v),
+        _ => line(out, s, ds, v),
     }
 }

@@ -2,7 +2,7 @@
 #![tactic(auto)]
 
 pub mod args; // args.rt: the arguments of a program
-pub mod count; // count.rt: one more
+pub mod count; // count.rt: one more, and what fits
 pub mod digits; // digits.rt: the value of a digit
 pub mod find; // find.rt: where something stands in a text
 pub mod input; // input.rt: what is read of a file
