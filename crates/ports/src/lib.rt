@@ -12,6 +12,7 @@ use lanes::Unpacked;
 use terms::Counted;
 
 // Source 2, as one value: BIMM in each component, or the register SRC2.
+#[tactic(auto, unfolding(crate::specs::Inner::Ports::second_of))]
 pub fn second_of(word: u32, v: &[u8]) -> [u8; 16]
     requires { length v.now ≡ 512 }
     ensures { result ≡ second_of (second_by word) v.now }
