@@ -1,0 +1,10 @@
+-- `vector::vadd_u` meets its contract.
+use mathlib.Core.Path.{refl, ◌∙◌}
+use Rattle.ports.specs.Inner.Ports.{second_of}
+use Rattle.vector.specs.Inner.Effect.{result_of, counted_of, vectored}
+use Rattle.lanes.proofs.Unpacking.{arith_packs}
+use Rattle.vector.proofs.vadd_u.Goals as goal
+
+pub returns : goal.returns
+unfolding result_of counted_of vectored second_of
+returns c = c.put_clipped.ensures ∙ rw (c.vadd_u.ensures, arith_packs, c.second_of-b.ensures, c.vreg-a.ensures, c.cut-f.ensures.0) refl
