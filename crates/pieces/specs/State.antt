@@ -13,7 +13,7 @@ pub record State : Type 0 where
 abbrev pub state : List ℕ → List ℕ → List ℕ → List ℕ → List ℕ → List ℕ → State
 state ds a r c vc v = record { ds = ds; a = a; r = r; c = c; vc = vc; v = v }
 
--- the state behind the six lent pieces, at entry or at exit of a call
+-- the state behind the six pieces, where all are lent for reading alone
 abbrev pub pieces : Bor (List ℕ) → Bor (List ℕ) → Bor (List ℕ) → Bor (List ℕ) → Bor (List ℕ) → Bor (List ℕ) → State
 pieces ds a r c vc v = state ds.now a.now r.now c.now vc.now v.now
 
