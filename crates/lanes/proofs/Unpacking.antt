@@ -1,5 +1,5 @@
 -- Results whose flags are not packed yet: how the code makes one, and that each operation's stands for what Lanes.antt says.
--- The laws `..-packs` are for callers: from `e : r ≡ arith_unpacked op signed a b`, `ap packs e ∙ arith_packs op signed a b` is
+-- The laws `.._packs` are for callers: from `e : r ≡ arith_unpacked op signed a b`, `ap packs e ∙ arith_packs op signed a b` is
 -- `packs r ≡ arith_lanes op signed a b`.
 use mathlib.Core.Path.{◌≡◌, refl, sym}
 use mathlib.Core.Bool.{Bool, true, false, cond}
