@@ -6,29 +6,30 @@ mod to_lines;
 mod to_words;
 mod walk;
 
-ghost use Rattle.io.specs.Counts.{IsPrefixLen};
+ghost use Rattle.text.specs.Counts.{IsPrefixLen};
 
-use libc::STDIN_FILENO;
+use text::args;
 use text::find::same;
+use text::input::fill;
 use text::say::say;
 
 // What is asked for: lines of words, or words of lines.
-#[derive(Drop)]
+#[derive(Clone, Copy)]
 pub enum Job {
     Names,
     Words,
 }
 
 // What is asked for, if that is known.
-#[derive(Drop)]
+#[derive(Clone, Copy)]
 enum Asked {
     Known(Job),
     Unknown,
 }
 
-fn first_word() -> Asked {
+fn first_word(rt: HostRuntime) -> Asked {
     let mut word = [0u8; 8];
-    let n = os::arg(1, &mut word);
+    let n = args::whole(rt, 1, &mut word);
     if same(&word[..n], b"names") {
         return Asked::Known(Job::Names);
     }
@@ -39,40 +40,39 @@ fn first_word() -> Asked {
 }
 
 // The file's name, of which no more is shown than fits.
-fn file_name(file: &mut [u8]) -> usize
+fn file_name(rt: HostRuntime, file: &mut [u8]) -> usize
     ensures { IsPrefixLen result file.new }
 {
-    let n = os::arg(2, file);
-    if n == 0 && os::errno() == libc::ENAMETOOLONG {
-        return io::count(4096, file);
-    }
-    n
+    args::beginning(rt, 2, file)
 }
 
 // Standard input, looked through for a fault first, so that nothing is written where there is one.
-fn run(job: Job, file: &[u8]) {
-    let mut text = io::large_buffer();
-    let n = io::read_full(STDIN_FILENO, &mut text);
-    // It was 0 after the first word was asked for, and since then nothing but a read can have failed.
-    if os::errno() != 0 {
-        report::unread(job, file);
+fn run(rt: HostRuntime, job: Job, file: &[u8]) {
+    let mut text = [0u8; 65536];
+    let filled = fill(&mut rt.stdin(), &mut text);
+    let n = filled.length;
+    if filled.failed {
+        report::unread(rt.stderr(), job, file);
         return;
     }
     if n > 65535 {
-        report::long(job, file);
+        report::long(rt.stderr(), job, file);
         return;
     }
-    if walk::walk(job, file, &text[..n], false) {
-        walk::walk(job, file, &text[..n], true);
+    if walk::walk(rt, job, file, &text[..n], false) {
+        walk::walk(rt, job, file, &text[..n], true);
     }
 }
 
-fn main() {
-    let mut file = io::buffer();
-    let n = file_name(&mut file);
-    let Asked::Known(job) = first_word() else {
-        say(b"usage: lines names FILE, or lines words FILE\n");
+fn main(rt: HostRuntime) {
+    let mut file = [0u8; 4096];
+    let n = file_name(rt, &mut file);
+    let Asked::Known(job) = first_word(rt) else {
+        say(
+            rt.stderr(),
+            b"usage: lines names FILE, or lines words FILE\n",
+        );
         return;
     };
-    run(job, &file[..n]);
+    run(rt, job, &file[..n]);
 }
