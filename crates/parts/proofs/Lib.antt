@@ -3,6 +3,7 @@ pub mod Twelve
 pub mod Fill
 pub mod Struct
 pub mod Stretch
+pub mod Streaming
 pub mod Feeding
 pub mod Called
 pub mod Back

@@ -16,7 +16,7 @@ use terms::{Counts, End};
 
 // A run in parts between two calls: how many steps it may do; whether it is over, and the answer that is given, Done while all is well; the
 // steps done and what they counted; the unfinished bytes, which are the first `count` of `held`.
-#[derive(Drop)]
+#[derive(Clone, Copy)]
 pub struct Run {
     pub budget: u32,
     pub over: bool,
