@@ -1,7 +1,8 @@
 // What the arguments ask for: the command, and the options behind it.
+use text::args;
 use text::find::same;
 
-#[derive(Drop)]
+#[derive(Clone, Copy)]
 pub enum Command {
     Run,
     Check,
@@ -10,7 +11,7 @@ pub enum Command {
 }
 
 // The options, whether one of them is none, and the number of the first argument behind them.
-#[derive(Drop)]
+#[derive(Clone, Copy)]
 pub struct Options {
     pub tell: bool,
     pub quiet: bool,
@@ -19,9 +20,9 @@ pub struct Options {
     pub first: usize,
 }
 
-pub fn first_word() -> Command {
+pub fn first_word(rt: HostRuntime) -> Command {
     let mut word = [0u8; 8];
-    let n = os::arg(1, &mut word);
+    let n = args::whole(rt, 1, &mut word);
     if same(&word[..n], b"run") {
         return Command::Run;
     }
@@ -43,9 +44,9 @@ fn runs(command: Command) -> bool {
 
 // The options with that of argument i, if it is one: else its number is the first of the others. Only `run` has more than --tell, and takes no other word with -- before
 // its files, so that an option that is misspelt is no file.
-fn with(o: Options, i: usize, run: bool) -> Options {
+fn with(rt: HostRuntime, o: Options, i: usize, run: bool) -> Options {
     let mut word = [0u8; 8];
-    let n = os::arg(i, &mut word);
+    let n = args::whole(rt, i, &mut word);
     let mut after = o;
     if same(&word[..n], b"--tell") {
         after.tell = true;
@@ -60,9 +61,9 @@ fn with(o: Options, i: usize, run: bool) -> Options {
     after
 }
 
-pub fn read(command: Command) -> Options {
+pub fn read(rt: HostRuntime, command: Command) -> Options {
     let run = runs(command);
-    let count = os::arg_count();
+    let count = args::count(rt);
     let mut o = Options {
         tell: false,
         quiet: false,
@@ -71,7 +72,7 @@ pub fn read(command: Command) -> Options {
         first: count,
     };
     for i in 2..count {
-        o = with(o, i, run);
+        o = with(rt, o, i, run);
         if o.first == i {
             return o;
         }
@@ -80,8 +81,8 @@ pub fn read(command: Command) -> Options {
 }
 
 // How many arguments there are from this one on.
-pub fn left(first: usize) -> usize {
-    let count = os::arg_count();
+pub fn left(rt: HostRuntime, first: usize) -> usize {
+    let count = args::count(rt);
     if first < count { count - first } else { 0 }
 }
 

@@ -2,27 +2,29 @@
 use crate::compare::Tally;
 use crate::pages::Found;
 use crate::{compare, pages, source, start, steps};
+use std::io::Stdout;
 use text::print::{decimal, text};
 
 // The last line, and the status.
-fn verdict(file: &[u8], t: Tally) -> u32 {
-    text(file);
+fn verdict(out: Stdout, file: &[u8], t: Tally) -> u32 {
+    text(out, file);
     if t.differ == 0 {
-        text(b": as expected, ");
-        decimal(t.compared as u64);
-        text(b" compared\n");
+        text(out, b": as expected, ");
+        decimal(out, t.compared as u64);
+        text(out, b" compared\n");
         return 0;
     }
-    text(b": ");
-    decimal(t.differ as u64);
-    text(b" of ");
-    decimal(t.compared as u64);
-    text(b" differ\n");
+    text(out, b": ");
+    decimal(out, t.differ as u64);
+    text(out, b" of ");
+    decimal(out, t.compared as u64);
+    text(out, b" differ\n");
     1
 }
 
 // A listing without a fault against the file that argument i names. Where this sets the start, the listing does not.
 pub fn check(
+    rt: HostRuntime,
     i: usize,
     f: Found,
     file: &[u8],
@@ -35,16 +37,23 @@ pub fn check(
     vc: &mut [u32; 4],
     v: &mut [u8; 512],
 ) -> u32 {
-    let mut name = io::large_buffer();
-    let mut page = io::large_buffer();
-    let got = source::read(b"check", i, &mut name, &mut page);
+    let mut name = [0u8; 65536];
+    let mut page = [0u8; 65536];
+    let got = source::read(rt, b"check", i, &mut name, &mut page);
     if !got.good {
         return 2;
     }
     let n = got.name;
     let m = got.length;
     let wanted = &page[..m];
-    let g = pages::read(pages::between(f), b"check", &name[..n], wanted, words);
+    let g = pages::read(
+        rt.stderr(),
+        pages::between(f),
+        b"check",
+        &name[..n],
+        wanted,
+        words,
+    );
     if !g.good {
         return 2;
     }
@@ -54,7 +63,19 @@ pub fn check(
         start::set(text, ds, a, r, c, vc, v);
     }
     let mut banks = [0u32; 16];
-    let total = steps::run(g, false, words, &mut banks, ds, a, r, c, vc, v);
-    let t = compare::compare(g.answers, wanted, total, &banks, ds, a, r, c, vc, v);
-    verdict(file, t)
+    let total = steps::run(rt.stdout(), g, false, words, &mut banks, ds, a, r, c, vc, v);
+    let t = compare::compare(
+        rt.stdout(),
+        g.answers,
+        wanted,
+        total,
+        &banks,
+        ds,
+        a,
+        r,
+        c,
+        vc,
+        v,
+    );
+    verdict(rt.stdout(), file, t)
 }

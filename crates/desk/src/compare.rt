@@ -8,12 +8,13 @@ use shown::cells::print_banks;
 use shown::registers::word_of;
 use shown::subjects::{bytes_of, subject};
 use shown::{figures, phrases};
+use std::io::Stdout;
 use text::count::one_more;
 use text::find::same;
 use text::print::{decimal, quote, text};
 
 // How many lines there were, how many of them were compared, and how many of these differ.
-#[derive(Drop)]
+#[derive(Clone, Copy)]
 pub struct Tally {
     lines: u32,
     pub compared: u32,
@@ -73,14 +74,15 @@ fn agrees(
 
 // ---- what is written of one that does not
 
-fn begin(number: u32, what: &[u8]) {
-    text(b"line ");
-    decimal(number as u64);
-    text(what);
+fn begin(out: Stdout, number: u32, what: &[u8]) {
+    text(out, b"line ");
+    decimal(out, number as u64);
+    text(out, what);
 }
 
 // What the run has left of the thing that the line speaks of.
 fn found(
+    out: Stdout,
     e: Expected,
     total: Total,
     banks: &[u32; 16],
@@ -94,14 +96,14 @@ fn found(
     match e {
         Expected::Part(p) => {
             let kind = p.kind;
-            subject(Subject::Word(kind, p.n), ds, a, r, c, vc, v)
+            subject(out, Subject::Word(kind, p.n), ds, a, r, c, vc, v)
         }
-        Expected::Sixteen(s, _) => subject(s, ds, a, r, c, vc, v),
-        Expected::Answer(_) => phrases::answer(total.answer),
-        Expected::Steps(_) => figures::line(b"steps ", total.steps as u64),
-        Expected::Cells(_) => figures::line(b"cells ", total.counts.accesses),
-        Expected::Clipped(_) => figures::line(b"clipped ", total.counts.clipped),
-        Expected::Banks(_) => print_banks(banks),
+        Expected::Sixteen(s, _) => subject(out, s, ds, a, r, c, vc, v),
+        Expected::Answer(_) => phrases::answer(out, total.answer),
+        Expected::Steps(_) => figures::line(out, b"steps ", total.steps as u64),
+        Expected::Cells(_) => figures::line(out, b"cells ", total.counts.accesses),
+        Expected::Clipped(_) => figures::line(out, b"clipped ", total.counts.clipped),
+        Expected::Banks(_) => print_banks(out, banks),
         _ => {}
     }
 }
@@ -117,6 +119,7 @@ fn tallied(t: Tally, agrees: bool) -> Tally {
 
 // A line that is compared.
 fn one(
+    out: Stdout,
     t: Tally,
     line: &[u8],
     total: Total,
@@ -131,17 +134,18 @@ fn one(
     let e = expected(line);
     let good = agrees(e, line, total, banks, ds, a, r, c, vc, v);
     if !good {
-        begin(t.lines, b": expected ");
-        quote(line, 128);
-        text(b"\n");
-        begin(t.lines, b": found ");
-        found(e, total, banks, ds, a, r, c, vc, v);
+        begin(out, t.lines, b": expected ");
+        quote(out, line, 128);
+        text(out, b"\n");
+        begin(out, t.lines, b": found ");
+        found(out, e, total, banks, ds, a, r, c, vc, v);
     }
     tallied(t, good)
 }
 
 // Any line: those that begin with a dot have set the start.
 fn next(
+    out: Stdout,
     t: Tally,
     line: &[u8],
     total: Total,
@@ -158,11 +162,11 @@ fn next(
     if line.len() == 0 || dotted(line) {
         return here;
     }
-    one(here, line, total, banks, ds, a, r, c, vc, v)
+    one(out, here, line, total, banks, ds, a, r, c, vc, v)
 }
 
 // The answer 0 that is expected where no line has an answer.
-fn unsaid(answers: bool, answer: u32) -> Tally {
+fn unsaid(out: Stdout, answers: bool, answer: u32) -> Tally {
     let none = Tally {
         lines: 0,
         compared: 0,
@@ -172,14 +176,15 @@ fn unsaid(answers: bool, answer: u32) -> Tally {
         return none;
     }
     if answer != 0 {
-        text(b"line 0: expected answer 0\nline 0: found ");
-        phrases::answer(answer);
+        text(out, b"line 0: expected answer 0\nline 0: found ");
+        phrases::answer(out, answer);
     }
     tallied(none, answer == 0)
 }
 
 // Goes over the lines, which are good. `answers` says that one of them has an answer.
 pub fn compare(
+    out: Stdout,
     answers: bool,
     text: &[u8],
     total: Total,
@@ -191,13 +196,13 @@ pub fn compare(
     vc: &[u32],
     v: &[u8],
 ) -> Tally {
-    let mut room = io::large_buffer();
-    let mut t = unsaid(answers, total.answer);
+    let mut room = [0u8; 65536];
+    let mut t = unsaid(out, answers, total.answer);
     let mut at = 0;
     while at < text.len() {
         let l = lines::line(text, at, &mut room);
         let n = l.length;
-        t = next(t, &room[..n], total, banks, ds, a, r, c, vc, v);
+        t = next(out, t, &room[..n], total, banks, ds, a, r, c, vc, v);
         at = l.next;
     }
     t

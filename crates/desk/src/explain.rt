@@ -8,13 +8,14 @@ use shown::cells::address_of;
 use shown::figures::{line, prefixed};
 use shown::places::{in_store, index_of};
 use shown::{phrases, registers};
+use std::io::Stdout;
 use swap::Listed;
 use text::print::{decimal, text};
 
-fn word_line(name: &[u8], word: u32) {
-    text(name);
-    prefixed(word as u64, 8);
-    text(b"\n");
+fn word_line(out: Stdout, name: &[u8], word: u32) {
+    text(out, name);
+    prefixed(out, word as u64, 8);
+    text(out, b"\n");
 }
 
 // The word of the line of a word.
@@ -27,12 +28,12 @@ fn normal(word: u32) -> u32 {
 }
 
 // What is said of a word that has a line.
-fn meaning(word: u32) {
+fn meaning(out: Stdout, word: u32) {
     let plain = normal(word);
     if plain != word {
-        word_line(b"normal ", plain);
+        word_line(out, b"normal ", plain);
     }
-    fields(word);
+    fields(out, word);
 }
 
 // Lists the places of a step, in a state of zeros but for $a.
@@ -74,7 +75,7 @@ fn stored(places: &[u32; 22]) -> u64 {
 }
 
 // The place i of a list that begins with the place `from`: the bytes of the store are said at the first of them.
-fn one_place(places: &[u32; 22], from: usize, i: usize) {
+fn one_place(out: Stdout, places: &[u32; 22], from: usize, i: usize) {
     if i >= 22 {
         return;
     }
@@ -83,34 +84,34 @@ fn one_place(places: &[u32; 22], from: usize, i: usize) {
         return;
     }
     if i > from {
-        text(b",");
+        text(out, b",");
     }
-    text(b" ");
+    text(out, b" ");
     if in_store(p) {
-        decimal(stored(places));
-        text(b" bytes of the store");
+        decimal(out, stored(places));
+        text(out, b" bytes of the store");
     } else {
-        phrases::place(p);
+        phrases::place(out, p);
     }
 }
 
 // So many places, from one on.
-fn place_line(name: &[u8], places: &[u32; 22], from: u32, count: u32) {
-    text(name);
+fn place_line(out: Stdout, name: &[u8], places: &[u32; 22], from: u32, count: u32) {
+    text(out, name);
     if count == 0 {
-        text(b" nothing");
+        text(out, b" nothing");
     }
     let first = from as usize;
     for i in first..first + count as usize {
-        one_place(places, first, i);
+        one_place(out, places, first, i);
     }
-    text(b"\n");
+    text(out, b"\n");
 }
 
-fn address_line(place: u32, code: usize) {
+fn address_line(out: Stdout, place: u32, code: usize) {
     let index = index_of(place);
-    prefixed(address_of(index as usize, code) as u64, 4);
-    phrases::store_byte(b" bank ", index, b" low\n", b" high\n");
+    prefixed(out, address_of(index as usize, code) as u64, 4);
+    phrases::store_byte(out, b" bank ", index, b" low\n", b" high\n");
 }
 
 // The register that a half of $a belongs to: 32 or more where the place is of another kind.
@@ -119,50 +120,50 @@ fn register_of(place: u32) -> usize {
 }
 
 // The base register, and the addresses of the access.
-fn access(places: &[u32; 22], base: u32) {
-    registers::word(Kind::A, register_of(places[0]), base);
+fn access(out: Stdout, places: &[u32; 22], base: u32) {
+    registers::word(out, Kind::A, register_of(places[0]), base);
     for i in 0..22 {
         if in_store(places[i]) {
-            address_line(places[i], (base >> 30) as usize);
+            address_line(out, places[i], (base >> 30) as usize);
         }
     }
 }
 
 // What a step touches that is not refused. The first of its places is a half of this register: the base of a load or store. The places of no other step
 // depend on what a register holds.
-fn touched(t: Triple, base: u32, register: usize) {
+fn touched(out: Stdout, t: Triple, base: u32, register: usize) {
     let mut a = [0u32; 32];
     if register < 32 {
         a[register] = base;
     }
     let mut places = [0u32; 22];
     let listed = list(t, &a, &mut places);
-    place_line(b"reads", &places, 0, listed.reads);
-    place_line(b"writes", &places, listed.reads, listed.writes);
-    line(b"cells ", accesses(t, &mut a));
+    place_line(out, b"reads", &places, 0, listed.reads);
+    place_line(out, b"writes", &places, listed.reads, listed.writes);
+    line(out, b"cells ", accesses(t, &mut a));
     if stored(&places) != 0 {
-        access(&places, base);
+        access(out, &places, base);
     }
 }
 
 // Explains a step whose base register holds this word, and answers the status: 1 where the step is refused.
-pub fn explain(t: Triple, base: u32) -> u32 {
-    phrases::step_text(t);
-    text(b"\n");
-    word_line(b"word ", t.word);
+pub fn explain(out: Stdout, t: Triple, base: u32) -> u32 {
+    phrases::step_text(out, t);
+    text(out, b"\n");
+    word_line(out, b"word ", t.word);
     let a = [0u32; 32];
     let mut places = [0u32; 22];
     let listed = list(t, &a, &mut places);
     let end = listed.end;
     let answer = terms::number(end);
     if answer != 1 && answer != 2 {
-        meaning(t.word);
+        meaning(out, t.word);
     }
     if answer != 0 {
-        phrases::refused(answer);
-        text(b"\n");
+        phrases::refused(out, answer);
+        text(out, b"\n");
         return 1;
     }
-    touched(t, base, register_of(places[0]));
+    touched(out, t, base, register_of(places[0]));
     0
 }

@@ -2,15 +2,17 @@
 use crate::asked::Options;
 use crate::pages::Found;
 use crate::{asked, check, pages, run, source};
+use text::args;
 
 // What is asked of a listing: to run it, by these options and under its name where there are several; to check it against the file that this argument names.
-#[derive(Drop)]
+#[derive(Clone, Copy)]
 pub enum Job {
     Run(Options, bool),
     Check(usize),
 }
 
 fn done(
+    rt: HostRuntime,
     job: Job,
     f: Found,
     file: &[u8],
@@ -24,13 +26,34 @@ fn done(
     v: &mut [u8; 512],
 ) -> u32 {
     match job {
-        Job::Run(o, many) => run::run(o, many, f, file, text, words, ds, a, r, c, vc, v),
-        Job::Check(i) => check::check(i, f, file, text, words, ds, a, r, c, vc, v),
+        Job::Run(o, many) => run::run(
+            rt.stdout(),
+            o,
+            many,
+            f,
+            file,
+            text,
+            words,
+            ds,
+            a,
+            r,
+            c,
+            vc,
+            v,
+        ),
+        Job::Check(i) => check::check(rt, i, f, file, text, words, ds, a, r, c, vc, v),
     }
 }
 
 // From a state of zeros.
-fn begun(job: Job, f: Found, file: &[u8], text: &[u8], words: &mut [u32; 3072]) -> u32 {
+fn begun(
+    rt: HostRuntime,
+    job: Job,
+    f: Found,
+    file: &[u8],
+    text: &[u8],
+    words: &mut [u32; 3072],
+) -> u32 {
     let mut ds = [0u8; 8192];
     let mut a = [0u32; 32];
     let mut r = [0u32; 32];
@@ -38,31 +61,31 @@ fn begun(job: Job, f: Found, file: &[u8], text: &[u8], words: &mut [u32; 3072]) 
     let mut vc = [0u32; 4];
     let mut v = [0u8; 512];
     done(
-        job, f, file, text, words, &mut ds, &mut a, &mut r, &mut c, &mut vc, &mut v,
+        rt, job, f, file, text, words, &mut ds, &mut a, &mut r, &mut c, &mut vc, &mut v,
     )
 }
 
 // A listing is done where it has no fault.
-fn looked(job: Job, who: &[u8], file: &[u8], text: &[u8]) -> u32 {
+fn looked(rt: HostRuntime, job: Job, who: &[u8], file: &[u8], text: &[u8]) -> u32 {
     let mut words = [0u32; 3072];
-    let f = pages::read(pages::nothing(), who, file, text, &mut words);
+    let f = pages::read(rt.stderr(), pages::nothing(), who, file, text, &mut words);
     if !f.good {
         return 2;
     }
-    begun(job, f, file, text, &mut words)
+    begun(rt, job, f, file, text, &mut words)
 }
 
 // The listing that argument i names.
-fn one(job: Job, who: &[u8], i: usize) -> u32 {
-    let mut file = io::large_buffer();
-    let mut text = io::large_buffer();
-    let got = source::read(who, i, &mut file, &mut text);
+fn one(rt: HostRuntime, job: Job, who: &[u8], i: usize) -> u32 {
+    let mut file = [0u8; 65536];
+    let mut text = [0u8; 65536];
+    let got = source::read(rt, who, i, &mut file, &mut text);
     if !got.good {
         return 2;
     }
     let n = got.name;
     let m = got.length;
-    looked(job, who, &file[..n], &text[..m])
+    looked(rt, job, who, &file[..n], &text[..m])
 }
 
 fn greater(x: u32, y: u32) -> u32 {
@@ -70,15 +93,15 @@ fn greater(x: u32, y: u32) -> u32 {
 }
 
 // The command `run`: every listing by itself, and the greatest status.
-pub fn run_all(o: Options, count: usize) -> u32 {
+pub fn run_all(rt: HostRuntime, o: Options, count: usize) -> u32 {
     let mut status = 0;
-    for i in o.first..os::arg_count() {
-        status = greater(status, one(Job::Run(o, count > 1), b"run", i));
+    for i in o.first..args::count(rt) {
+        status = greater(status, one(rt, Job::Run(o, count > 1), b"run", i));
     }
     status
 }
 
 // The command `check`.
-pub fn check_one(o: Options) -> u32 {
-    one(Job::Check(asked::behind(o.first)), b"check", o.first)
+pub fn check_one(rt: HostRuntime, o: Options) -> u32 {
+    one(rt, Job::Check(asked::behind(o.first)), b"check", o.first)
 }

@@ -1,12 +1,13 @@
 // The lines of a text, and what is left of each: its texts, with one space between two.
 ghost use Rattle.std.specs.Prelude.{◌<◌, ◌≤◌, length};
-ghost use Rattle.io.specs.Counts.{IsPrefixLen};
+ghost use Rattle.text.specs.Counts.{IsPrefixLen};
 
+use text::count::at_most;
 use text::find::{What, find};
 use text::squeeze::squeeze;
 
 // How many bytes are left of a line, and where in the text the next one begins.
-#[derive(Drop)]
+#[derive(Clone, Copy)]
 pub struct Left {
     pub length: usize,
     pub next: usize,
@@ -19,10 +20,10 @@ fn clean(line: &[u8], room: &mut [u8]) -> usize
     let cut = find(line, 0, What::Comment);
     // No line is longer than the room that the callers have.
     if cut > room.len() {
-        return io::count(0, room);
+        return at_most(0, room);
     }
     let n = squeeze(&line[..cut], room);
-    io::count(n as isize, room)
+    at_most(n, room)
 }
 
 // The line that begins at a place of the text.

@@ -19,43 +19,44 @@ mod steps;
 mod tell;
 
 use crate::asked::{Command, Options};
+use std::io::Stderr;
 
-fn usage() -> u32 {
-    tell::usage();
+fn usage(err: Stderr) -> u32 {
+    tell::usage(err);
     2
 }
 
-fn explained(o: Options, words: usize) -> u32 {
+fn explained(rt: HostRuntime, o: Options, words: usize) -> u32 {
     match words {
-        1 => argument::explained(o.first, false),
-        2 => argument::explained(o.first, true),
-        _ => usage(),
+        1 => argument::explained(rt, o.first, false),
+        2 => argument::explained(rt, o.first, true),
+        _ => usage(rt.stderr()),
     }
 }
 
 // Does what is asked for, and answers the status.
-fn done(command: Command, o: Options, words: usize) -> u32 {
+fn done(rt: HostRuntime, command: Command, o: Options, words: usize) -> u32 {
     match command {
         Command::Run => if words > 0 && !o.unknown {
-            jobs::run_all(o, words)
+            jobs::run_all(rt, o, words)
         } else {
-            usage()
+            usage(rt.stderr())
         },
         Command::Check => if words == 2 {
-            jobs::check_one(o)
+            jobs::check_one(rt, o)
         } else {
-            usage()
+            usage(rt.stderr())
         },
-        Command::Explain => explained(o, words),
-        Command::Unknown => usage(),
+        Command::Explain => explained(rt, o, words),
+        Command::Unknown => usage(rt.stderr()),
     }
 }
 
-fn main() {
-    let command = asked::first_word();
-    let o = asked::read(command);
-    let status = done(command, o, asked::left(o.first));
+fn main(rt: HostRuntime) {
+    let command = asked::first_word(rt);
+    let o = asked::read(rt, command);
+    let status = done(rt, command, o, asked::left(rt, o.first));
     if o.tell {
-        text::say::status(status);
+        text::say::status(rt, status);
     }
 }

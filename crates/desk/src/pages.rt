@@ -1,6 +1,7 @@
 // A listing, or a file of what is expected, looked at line by line up to the first fault. Its steps are put down; what sets the start is done afterwards, by `start`.
 use crate::{expected, lines, listing, tell};
 use orders::{Fault, Order};
+use std::io::Stderr;
 use text::count::one_more;
 
 // There are fewer steps than this in any listing, so that it is no bound.
@@ -8,7 +9,7 @@ const NO_BUDGET: u32 = u32::MAX;
 
 // What was found so far: whether there is no fault; whether this page, behind the listing, says what is expected; its lines; the steps and the .show lines of the
 // listing; whether this page sets the start; the budget; the lines to compare, and whether an answer is among them.
-#[derive(Drop)]
+#[derive(Clone, Copy)]
 pub struct Found {
     pub good: bool,
     expected: bool,
@@ -22,7 +23,7 @@ pub struct Found {
 }
 
 // What a line came to.
-#[derive(Drop)]
+#[derive(Clone, Copy)]
 pub enum Taken {
     Good(Found),
     Wrong(Fault),
@@ -65,11 +66,11 @@ pub fn started(f: Found, o: Order) -> Found {
     after
 }
 
-fn told(t: Taken, f: Found, who: &[u8], file: &[u8], line: &[u8]) -> Found {
+fn told(err: Stderr, t: Taken, f: Found, who: &[u8], file: &[u8], line: &[u8]) -> Found {
     match t {
         Taken::Good(after) => after,
         Taken::Wrong(fault) => {
-            tell::line(who, file, f.lines, line, fault);
+            tell::line(err, who, file, f.lines, line, fault);
             let mut after = f;
             after.good = false;
             after
@@ -84,50 +85,64 @@ fn take(f: Found, line: &[u8], words: &mut [u32; 3072]) -> Taken {
     listing::take(f, line, words)
 }
 
-fn next(f: Found, who: &[u8], file: &[u8], line: &[u8], words: &mut [u32; 3072]) -> Found {
+fn next(
+    err: Stderr,
+    f: Found,
+    who: &[u8],
+    file: &[u8],
+    line: &[u8],
+    words: &mut [u32; 3072],
+) -> Found {
     let mut here = f;
     here.lines = one_more(f.lines);
     if line.len() == 0 {
         return here;
     }
     let t = take(here, line, words);
-    told(t, here, who, file, line)
+    told(err, t, here, who, file, line)
 }
 
-fn empty(f: Found, who: &[u8], file: &[u8], message: &[u8]) -> Found {
-    tell::file(who, file, message);
+fn empty(err: Stderr, f: Found, who: &[u8], file: &[u8], message: &[u8]) -> Found {
+    tell::file(err, who, file, message);
     let mut after = f;
     after.good = false;
     after
 }
 
 // Tells where a page has nothing that it is for.
-fn ended(f: Found, who: &[u8], file: &[u8]) -> Found {
+fn ended(err: Stderr, f: Found, who: &[u8], file: &[u8]) -> Found {
     if f.expected {
         if f.compared > 0 {
             return f;
         }
-        return empty(f, who, file, b"expected a line to compare");
+        return empty(err, f, who, file, b"expected a line to compare");
     }
     if f.steps > 0 || f.shows > 0 || f.starts {
         return f;
     }
-    empty(f, who, file, b"expected a step or a dot line")
+    empty(err, f, who, file, b"expected a step or a dot line")
 }
 
 // Looks at the text of a page. The steps go to words, three for each.
-pub fn read(before: Found, who: &[u8], file: &[u8], text: &[u8], words: &mut [u32; 3072]) -> Found {
-    let mut room = io::large_buffer();
+pub fn read(
+    err: Stderr,
+    before: Found,
+    who: &[u8],
+    file: &[u8],
+    text: &[u8],
+    words: &mut [u32; 3072],
+) -> Found {
+    let mut room = [0u8; 65536];
     let mut f = before;
     let mut at = 0;
     while at < text.len() {
         let l = lines::line(text, at, &mut room);
         let n = l.length;
-        f = next(f, who, file, &room[..n], words);
+        f = next(err, f, who, file, &room[..n], words);
         if !f.good {
             return f;
         }
         at = l.next;
     }
-    ended(f, who, file)
+    ended(err, f, who, file)
 }

@@ -1,15 +1,18 @@
 // A file of the arguments, or standard input, read whole.
-ghost use Rattle.io.specs.Counts.{IsPrefixLen};
+ghost use Rattle.text.specs.Counts.{IsPrefixLen};
 
 use crate::tell;
-use libc::STDIN_FILENO;
+use std::fs::File;
+use std::io::Stderr;
+use text::args;
 use text::find::same;
+use text::input::{Filled, fill};
 
 // The most bytes that a file may have.
 const MOST: usize = 65535;
 
 // Whether the file could be read and is not too long, the length of its name, and its own.
-#[derive(Drop)]
+#[derive(Clone, Copy)]
 pub struct Source {
     pub good: bool,
     pub name: usize,
@@ -17,36 +20,41 @@ pub struct Source {
 }
 
 // Puts the argument at the start of name and answers its length. Of one that is too long for any file its first bytes are enough.
-fn name_of(i: usize, name: &mut [u8]) -> usize
+fn name_of(rt: HostRuntime, i: usize, name: &mut [u8]) -> usize
     ensures { IsPrefixLen result name.new }
 {
-    let n = os::arg(i, name);
-    if n == 0 && os::errno() == libc::ENAMETOOLONG {
-        return io::count(65536, name);
-    }
-    n
+    args::beginning(rt, i, name)
 }
 
-fn open(name: &[u8]) -> i32 {
+// No file has a name that is not UTF-8.
+fn open(rt: HostRuntime, name: &[u8]) -> Option<File> {
+    let path = str::from_utf8(name).ok()?;
+    File::open(&rt, path).ok()
+}
+
+// Puts the bytes of the file of a name, or of standard input, at the start of text: as many as there is room for.
+fn filled(rt: HostRuntime, name: &[u8], text: &mut [u8]) -> Filled
+    ensures { IsPrefixLen result.length text.new }
+{
     if same(name, b"-") {
-        return STDIN_FILENO;
+        return fill(&mut rt.stdin(), text);
     }
-    os::open_read(name)
+    match open(rt, name) {
+        Some(mut file) => fill(&mut file, text),
+        None => Filled {
+            length: 0,
+            failed: true,
+        },
+    }
 }
 
-fn close(fd: i32) {
-    if fd != STDIN_FILENO {
-        libc::close(fd);
-    }
-}
-
-fn told(who: &[u8], name: &[u8], failed: bool, length: usize) -> bool {
+fn told(err: Stderr, who: &[u8], name: &[u8], failed: bool, length: usize) -> bool {
     if failed {
-        tell::file(who, name, b"cannot be read");
+        tell::file(err, who, name, b"cannot be read");
         return true;
     }
     if length > MOST {
-        tell::file(who, name, b"longer than 65535 bytes");
+        tell::file(err, who, name, b"longer than 65535 bytes");
         return true;
     }
     false
@@ -54,19 +62,15 @@ fn told(who: &[u8], name: &[u8], failed: bool, length: usize) -> bool {
 
 // Puts the name that argument i is at the start of name, and the file's bytes at the start of text: as many as there is room for, and where these are more
 // than may be, that is told.
-pub fn read(who: &[u8], i: usize, name: &mut [u8], text: &mut [u8]) -> Source
+pub fn read(rt: HostRuntime, who: &[u8], i: usize, name: &mut [u8], text: &mut [u8]) -> Source
     ensures { IsPrefixLen result.name name.new × IsPrefixLen result.length text.new }
 {
-    let n = name_of(i, name);
-    let fd = open(&name[..n]);
-    let length = io::read_full(fd, text);
-    // Asking for the name has set it to 0, and since then nothing but the opening or a read can have failed.
-    let failed = os::errno() != 0;
-    close(fd);
-    let good = !told(who, &name[..n], failed, length);
+    let n = name_of(rt, i, name);
+    let got = filled(rt, &name[..n], text);
+    let good = !told(rt.stderr(), who, &name[..n], got.failed, got.length);
     Source {
         good,
         name: n,
-        length,
+        length: got.length,
     }
 }

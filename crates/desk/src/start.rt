@@ -105,7 +105,7 @@ pub fn set(
     vc: &mut [u32; 4],
     v: &mut [u8; 512],
 ) {
-    let mut room = io::large_buffer();
+    let mut room = [0u8; 65536];
     let mut at = 0;
     while at < text.len() {
         let l = lines::line(text, at, &mut room);

@@ -5,6 +5,7 @@ use crate::listing::MOST_STEPS;
 use crate::pages::Found;
 use orders::Triple;
 use shown::{cells, changes, phrases};
+use std::io::Stdout;
 use swap::{Swap, Verdict};
 use terms::Counts;
 use text::count::one_more;
@@ -14,7 +15,7 @@ use text::print::{counted, decimal, text};
 const SPENT: u32 = 7;
 
 // How far the run has come: its answer, the steps done, and what they count.
-#[derive(Drop)]
+#[derive(Clone, Copy)]
 pub struct Total {
     pub answer: u32,
     pub steps: u32,
@@ -37,59 +38,67 @@ fn triple_at(words: &[u32; 3072], i: usize) -> Triple {
     }
 }
 
-fn print_clash(place: u32, writer: u32) {
-    text(b"clash at ");
-    phrases::place(place);
+fn print_clash(out: Stdout, place: u32, writer: u32) {
+    text(out, b"clash at ");
+    phrases::place(out, place);
     if writer == 1 {
-        text(b", which the first writes");
+        text(out, b", which the first writes");
     } else {
-        text(b", which the second writes");
+        text(out, b", which the second writes");
     }
 }
 
-fn print_verdict(v: Verdict) {
+fn print_verdict(out: Stdout, v: Verdict) {
     match v {
-        Verdict::Free => text(b"free"),
-        Verdict::Clash(place, writer) => print_clash(place, writer),
+        Verdict::Free => text(out, b"free"),
+        Verdict::Clash(place, writer) => print_clash(out, place, writer),
     }
 }
 
 // What is said of a step and the next one.
-fn print_swap(s: Swap) {
-    text(b"; with the next: ");
+fn print_swap(out: Stdout, s: Swap) {
+    text(out, b"; with the next: ");
     let end = s.end;
     let answer = terms::number(end);
     if answer != 0 {
-        phrases::refused(answer);
+        phrases::refused(out, answer);
         return;
     }
     let verdict = s.verdict;
-    print_verdict(verdict);
+    print_verdict(out, verdict);
 }
 
-fn print_answer(answer: u32, counts: Counts, followed: bool, s: Swap) {
+fn print_answer(out: Stdout, answer: u32, counts: Counts, followed: bool, s: Swap) {
     if answer != 0 {
-        phrases::refused(answer);
+        phrases::refused(out, answer);
         return;
     }
-    text(b"done, ");
-    counted(counts.accesses, b" cell");
-    text(b", ");
-    decimal(counts.clipped);
-    text(b" clipped");
+    text(out, b"done, ");
+    counted(out, counts.accesses, b" cell");
+    text(out, b", ");
+    decimal(out, counts.clipped);
+    text(out, b" clipped");
     if followed {
-        print_swap(s);
+        print_swap(out, s);
     }
 }
 
 // The line of a step.
-fn print_step(number: u32, t: Triple, answer: u32, counts: Counts, followed: bool, s: Swap) {
-    decimal(number as u64);
-    text(b": ");
-    phrases::step_text(t);
-    text(b": ");
-    print_answer(answer, counts, followed, s);
-    text(b"\n");
+fn print_step(
+    out: Stdout,
+    number: u32,
+    t: Triple,
+    answer: u32,
+    counts: Counts,
+    followed: bool,
+    s: Swap,
+) {
+    decimal(out, number as u64);
+    text(out, b": ");
+    phrases::step_text(out, t);
+    text(out, b": ");
+    print_answer(out, answer, counts, followed, s);
+    text(out, b"\n");
 }
 
 // Wrapping, since a bound on the counts is of no use to any caller: there are at most 1,024 steps, each with at most 16 of either.
@@ -129,6 +138,7 @@ fn question(
 
 // One step. The question about it and the next one, its places and what it will change are asked for in the state before it.
 fn one_step(
+    out: Stdout,
     total: Total,
     t: Triple,
     followed: bool,
@@ -153,8 +163,8 @@ fn one_step(
     let answer = terms::number(end);
     let counts = x.counts;
     if loud {
-        print_step(one_more(total.steps), t, answer, counts, followed, s);
-        changes::changes(before, ds, a, r, c, vc, v);
+        print_step(out, one_more(total.steps), t, answer, counts, followed, s);
+        changes::changes(out, before, ds, a, r, c, vc, v);
     }
     more(total, answer, counts)
 }
@@ -169,6 +179,7 @@ fn covered(count: usize, budget: u32) -> usize
 
 // The steps that were found, in their words, up to one that is refused, or up to the budget.
 pub fn run(
+    out: Stdout,
     f: Found,
     loud: bool,
     words: &[u32; 3072],
@@ -191,7 +202,9 @@ pub fn run(
         let t = triple_at(words, i);
         let next = triple_at(words, i + 1);
         let followed = i + 1 < count;
-        total = one_step(total, t, followed, next, loud, banks, ds, a, r, c, vc, v);
+        total = one_step(
+            out, total, t, followed, next, loud, banks, ds, a, r, c, vc, v,
+        );
         if total.answer != 0 {
             return total;
         }

@@ -1,6 +1,6 @@
 // Standard input, fed to a run part by part.
-use libc::STDIN_FILENO;
 use parts::Run;
+use std::io::{Read, Stdin};
 
 // How far it is: the run, whether standard input has ended, and whether a read has failed.
 #[derive(Drop)]
@@ -12,6 +12,7 @@ pub struct Fed {
 
 // Reads once: what comes is one part.
 fn some(
+    mut input: Stdin,
     run: Run,
     ds: &mut [u8; 8192],
     a: &mut [u32; 32],
@@ -20,17 +21,21 @@ fn some(
     vc: &mut [u32; 4],
     v: &mut [u8; 512],
 ) -> Fed {
-    let mut bytes = io::buffer();
-    let got = libc::read(STDIN_FILENO, &mut bytes);
-    if got <= 0 {
-        let failed = got < 0;
+    let mut bytes = [0u8; 4096];
+    let Ok(n) = input.read(&mut bytes) else {
         return Fed {
             run,
             ended: true,
-            failed,
+            failed: true,
+        };
+    };
+    if n == 0 {
+        return Fed {
+            run,
+            ended: true,
+            failed: false,
         };
     }
-    let n = io::count(got, &bytes);
     let after = parts::part(run, &bytes[..n], ds, a, r, c, vc, v);
     Fed {
         run: after,
@@ -42,6 +47,7 @@ fn some(
 // Reads to the end, also where the run is over before it, so that whoever writes can do so in peace. A proved loop has to end, and nothing says that standard
 // input does: so the turns are counted down, from a number that no run uses up.
 fn feed(
+    input: Stdin,
     first: Run,
     ds: &mut [u8; 8192],
     a: &mut [u32; 32],
@@ -57,7 +63,7 @@ fn feed(
         failed: false,
     };
     while turns > 0 {
-        at = some(at.run, ds, a, r, c, vc, v);
+        at = some(input, at.run, ds, a, r, c, vc, v);
         if at.ended {
             return at;
         }
@@ -67,12 +73,14 @@ fn feed(
 }
 
 // From a state of zeros.
-pub fn all(first: Run) -> Fed {
+pub fn all(input: Stdin, first: Run) -> Fed {
     let mut ds = [0u8; 8192];
     let mut a = [0u32; 32];
     let mut r = [0u32; 32];
     let mut c = [0u32; 4];
     let mut vc = [0u32; 4];
     let mut v = [0u8; 512];
-    feed(first, &mut ds, &mut a, &mut r, &mut c, &mut vc, &mut v)
+    feed(
+        input, first, &mut ds, &mut a, &mut r, &mut c, &mut vc, &mut v,
+    )
 }

@@ -9,28 +9,28 @@ use text::digits::Number;
 use text::say;
 
 // Runs what standard input brings under a budget, on a machine of zeros, and answers the status.
-fn run(budget: u32) -> u32 {
-    let fed = feed::all(parts::begin(budget));
+fn run(rt: HostRuntime, budget: u32) -> u32 {
+    let fed = feed::all(rt.stdin(), parts::begin(budget));
     if fed.failed {
-        say::say(b"pipe: -: cannot be read\n");
+        say::say(rt.stderr(), b"pipe: -: cannot be read\n");
         return 2;
     }
     let run = parts::end(fed.run);
     let end = run.end;
     let answer = terms::number(end);
-    total::lines(answer, run.steps, run.counts);
+    total::lines(rt.stdout(), answer, run.steps, run.counts);
     total::status(answer)
 }
 
-fn main() {
-    let tell = asked::tell();
-    let budget = asked::budget(tell);
+fn main(rt: HostRuntime) {
+    let tell = asked::tell(rt);
+    let budget = asked::budget(rt, tell);
     let status = if let Number::Is(n) = budget {
-        run(n)
+        run(rt, n)
     } else {
         2
     };
     if tell {
-        say::status(status);
+        say::status(rt, status);
     }
 }
