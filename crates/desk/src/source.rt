@@ -26,7 +26,7 @@ fn name_of(rt: HostRuntime, i: usize, name: &mut [u8]) -> usize
     args::beginning(rt, i, name)
 }
 
-// No file has a name that is not UTF-8.
+// std opens a file by a name in UTF-8 alone: one of any other name counts as one that cannot be opened.
 fn open(rt: HostRuntime, name: &[u8]) -> Option<File> {
     let path = str::from_utf8(name).ok()?;
     File::open(&rt, path).ok()
