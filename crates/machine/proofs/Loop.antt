@@ -1,5 +1,5 @@
 -- What holds at each turn of a list's loop, and what a turn makes of it: what is left of the list, run from here, is what the whole list does.
-use Rattle.std.proofs.Common.{◌≡◌, ℕ, ◌+◌, ◌*◌, ◌/◌, ◌^◌, ◌≤◌, ◌<◌, ◌%◌, List, length, get_or, drop, cond, ltb, refl, sym, ap, ◌∙◌, arith}
+use Rattle.std.proofs.Common.{◌≡◌, ℕ, ◌+◌, ◌*◌, ◌/◌, ◌^◌, ◌≤◌, ◌<◌, ◌%◌, List, length, get_or, drop, cond, ltb, sym, ap, ◌∙◌, arith}
 use Rattle.terms.specs.Answers.{number}
 use Rattle.terms.specs.Inner.Runs.{end_of, amount, most}
 use Rattle.terms.specs.Counts.{none, plus, Within}

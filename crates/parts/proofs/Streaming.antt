@@ -1,5 +1,5 @@
 -- What holds at each turn of the loop over whole triples, a buffer a turn, and what a turn makes of it.
-use Rattle.std.proofs.Common.{◌≡◌, ℕ, ◌+◌, ◌-◌, ◌*◌, ◌/◌, ◌%◌, ◌^◌, ◌≤◌, ◌<◌, true, false, not, List, length, take, drop, length-drop, eqb, refl, sym, ap, ◌∙◌, arith}
+use Rattle.std.proofs.Common.{◌≡◌, ℕ, ◌+◌, ◌-◌, ◌*◌, ◌/◌, ◌%◌, ◌^◌, ◌≤◌, ◌<◌, true, false, not, List, length, take, drop, length-drop, eqb, sym, ap, ◌∙◌, arith}
 use Rattle.std.proofs.Math.Seq.{take_at}
 use Rattle.std.proofs.lemmas.Bool.{not-false}
 use Rattle.terms.specs.Answers.{number}

@@ -1,5 +1,5 @@
 -- What each arm of `units::triple` leaves, where its word decodes to what its case means: the outcome of the word's row.
-use Rattle.std.proofs.Common.{◌≡◌, ℕ, [], refl, sym, ap, ◌∙◌, subst}
+use Rattle.std.proofs.Common.{◌≡◌, ℕ, [], sym, ap, ◌∙◌, subst}
 use Rattle.words.specs.Table.{decode_of}
 use Rattle.words.specs.Inner.Bounded.{Bounded, BoundedD}
 use Rattle.words.specs.Inner.Meant.{meant, meant_d}

@@ -1,5 +1,5 @@
 -- Too few bytes for a triple are kept; else the first triple is done, and those behind it if there are any.
-use Rattle.std.proofs.Common.{◌≡◌, ◌-◌, ◌≤◌, List, ℕ, length, take, drop, refl, sym, ap, ◌∙◌}
+use Rattle.std.proofs.Common.{◌-◌, List, ℕ, length, take, drop, refl, sym, ap, ◌∙◌}
 use Rattle.pieces.specs.State.{State, state}
 use Rattle.machine.specs.Answers.{run_outcome}
 use Rattle.parts.specs.Run.{given}

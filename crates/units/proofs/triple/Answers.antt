@@ -1,10 +1,9 @@
 -- What the word decodes to is refused, or each arm's function leaves what the model says of the instruction that its case means.
 use Rattle.std.proofs.Common.{rules, refl, ap, ◌∙◌, sym}
-use Rattle.words.specs.Inner.Bounded.{Bounded, BoundedA}
+use Rattle.words.specs.Inner.Bounded.{BoundedA}
 use Rattle.words.specs.Inner.Meant.{meant, meant_d}
 use Rattle.words.specs.Decoded as D
 use Rattle.terms.specs.declared.Answer.{Answer}
-use Rattle.words.specs.declared.Decoded.TheVariants as C
 use Rattle.address.specs.Inner.Effect.{addressed, counted_in, into_r, into_v, out_of}
 use Rattle.ports.specs.Inner.Ports as P
 use Rattle.vector.specs.Inner.Effect as U

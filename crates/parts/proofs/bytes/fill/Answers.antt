@@ -1,5 +1,5 @@
 -- The loop puts down one word after the other.
-use Rattle.std.proofs.Common.{◌≡◌, ℕ, ◌+◌, ◌*◌, List, length, set, drop, length-set, refl, sym, ap, ◌∙◌, arith}
+use Rattle.std.proofs.Common.{◌≡◌, ℕ, ◌+◌, ◌*◌, List, set, drop, length-set, refl, sym, ap, ◌∙◌, arith}
 use Rattle.parts.specs.Inner.Feed.{word_at}
 use Rattle.parts.proofs.Fill.{word_drop, filled, filled_more}
 use Rattle.parts.proofs.bytes.fill.Goals as goal

@@ -1,7 +1,6 @@
 -- A turn by the laws of one turn (Streaming.antt), on the state behind the pieces.
-use Rattle.std.proofs.Common.{sym, refl, zero-le, ◌∙◌, arith}
-use Rattle.pieces.specs.State.{State, state, Sized}
-use Rattle.parts.proofs.Streaming.{fits, stays, ends, filled_room, small, next}
+use Rattle.std.proofs.Common.{sym, ◌∙◌}
+use Rattle.parts.proofs.Streaming.{ends, small, next}
 use Rattle.parts.proofs.stream.stream.Goals as goal
 
 pub added-ran-requires : goal.added-ran-requires
