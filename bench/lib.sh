@@ -1,6 +1,6 @@
 # What bench/run and bench/check share, to be read from the root of the repository: the driver over the proved library and the second simulator,
-# and the instructions that it takes. Counts, not seconds: qemu-user runs the x86-64 program with a plugin that counts, on x86-64 as on Arm.
-# Installs by apt-get what is missing: a C compiler for x86-64, qemu-user. (The toolchain's emulator takes no plugin.)
+# and the instructions that it takes. Counts, not seconds: qemu-user runs the program with a plugin that counts.
+# Installs by apt-get what is missing: a C compiler, qemu-user.
 # shellcheck shell=sh
 . tests/lib.sh
 room=$(mktemp -d)
