@@ -10,7 +10,7 @@ use Rattle.vector.specs.Inner.Effect as U
 use Rattle.pieces.specs.State.{state}
 use Rattle.units.specs.Inner.Answers.{answered, refused_of}
 use Rattle.units.proofs.Units.{by_row}
-use Rattle.units.proofs.Arms.{row, there, of_nop, of_vector, of_address, just_a, a_and_c, but_r, but_v, just_a_lent, a_and_c_lent, but_r_lent, but_v_lent}
+use Rattle.units.proofs.Arms.{row, there, of_nop, of_vector, of_address, of_load, just_a, a_and_c, but_r, but_v, just_a_lent, a_and_c_lent, but_r_lent, but_v_lent}
 use Rattle.units.proofs.triple.Goals as goal
 
 pub returns-in_default : goal.returns-in_default
@@ -285,16 +285,14 @@ returns-in-Bitop c =
 pub returns-in-Ldvh : goal.returns-in-Ldvh
 unfolding meant addressed counted_in into_r into_v out_of
 returns-in-Ldvh c =
-    let s = state c.args.ds.now c.args.a.now c.args.r.now c.args.c.now c.args.vc.now c.args.v.now in
-    of_address s (but_r s) (but_r_lent s)
-    (row c.decode-d.ensures c.in-Insn.is c.in-Ldvh.is) c.ldvh.ensures refl refl
+    of_load (state c.args.ds.now c.args.a.now c.args.r.now c.args.c.now c.args.vc.now c.args.v.now)
+    (row c.decode-d.ensures c.in-Insn.is c.in-Ldvh.is) (search rules) refl refl
 
 pub returns-in-Ldvv : goal.returns-in-Ldvv
 unfolding meant addressed counted_in into_r into_v out_of
 returns-in-Ldvv c =
-    let s = state c.args.ds.now c.args.a.now c.args.r.now c.args.c.now c.args.vc.now c.args.v.now in
-    of_address s (but_r s) (but_r_lent s)
-    (row c.decode-d.ensures c.in-Insn.is c.in-Ldvv.is) c.ldvv.ensures refl refl
+    of_load (state c.args.ds.now c.args.a.now c.args.r.now c.args.c.now c.args.vc.now c.args.v.now)
+    (row c.decode-d.ensures c.in-Insn.is c.in-Ldvv.is) (search rules) refl refl
 
 pub returns-in-Lds : goal.returns-in-Lds
 unfolding meant addressed counted_in into_r into_v out_of
