@@ -35,7 +35,7 @@ build_program() {
         target/staticlib/lib*.a
 }
 
-# Sets kit, the toolchain's folder; tools, what it has for this machine; and emulator, its emulator of x86-64: nothing where it has none, as on x86-64.
+# Sets kit, the toolchain's folder; tools, what programs run with; and emulator, an emulator of x86-64 that a toolchain may have: nothing where it has none.
 find_tools() {
     kit=$(dirname "$(rt doc)")
     tools=$kit/toolchain
