@@ -37,7 +37,7 @@ build_program() {
 
 # Sets kit, the toolchain's folder; tools, what programs run with; and emulator, an emulator of x86-64 that a toolchain may have: nothing where it has none.
 find_tools() {
-    kit=$(dirname "$(rt doc)")
+    kit=$(dirname "$(rt doc </dev/null)") # whatever standard input is: rt cannot begin where it is a folder
     tools=$kit/toolchain
     emulator=$tools/bin/qemu-x86_64
     [ -x "$emulator" ] || emulator=''
