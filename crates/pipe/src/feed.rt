@@ -3,7 +3,7 @@ use parts::Run;
 use std::io::{Read, Stdin};
 
 // How far it is: the run, whether standard input has ended, and whether a read has failed.
-#[derive(Drop)]
+#[derive(Clone, Copy)]
 pub struct Fed {
     pub run: Run,
     pub ended: bool,

@@ -14,7 +14,7 @@ use text::print::text;
 
 // The places that a step writes, NOWHERE behind the last of them; the word that each lies in, or the byte of the store; the bytes of the one vector
 // among them; and the stride code of the base register.
-#[derive(Drop)]
+#[derive(Clone, Copy)]
 pub struct Noted {
     places: [u32; 22],
     old: [u32; 22],
