@@ -9,7 +9,7 @@ trap 'rm -rf "$room"' EXIT
 # Writes the proved library, where it is not there or anything that could change it is newer.
 need_library() {
     archive=target/staticlib/libvp1.a
-    if [ ! -f "$archive" ] || [ -n "$(find crates crates.txt -newer "$archive" | head -n 1)" ]; then launcher/prove vp1 >&2; fi
+    if [ ! -f "$archive" ] || [ -n "$(find crates crates.txt -name out -prune -o -type f -newer "$archive" -print | head -n 1)" ]; then launcher/prove vp1 >&2; fi
 }
 
 # The version of qemu's plugin interface.
