@@ -3,25 +3,28 @@
 
 ghost use Rattle.std.specs.Prelude.{◌≡◌};
 ghost use Rattle.terms.specs.Answers.{number, numbered};
+ghost use Rattle.terms.specs.declared.End.TheVariants.{Refused};
 ghost use Rattle.terms.specs.Inner.Runs.{end_of, amount, most};
 ghost use Rattle.terms.specs.Counts.{none, plus, Within, within_of};
 
+use std::ops::Add;
+
 // How an access goes: along a row, down a column, or over the four bytes of a word.
-#[derive(Clone, Copy)]
+#[derive(Clone, Copy, PartialEq, Eq)]
 pub enum Way {
     Horizontal,
     Vertical,
     Scalar,
 }
 
-#[derive(Clone, Copy)]
+#[derive(Clone, Copy, PartialEq, Eq)]
 pub enum Half {
     Low,
     High,
 }
 
 // Why a triple is refused.
-#[derive(Clone, Copy)]
+#[derive(Clone, Copy, PartialEq, Eq)]
 pub enum Refusal {
     Foreign,
     Undocumented,
@@ -31,7 +34,7 @@ pub enum Refusal {
 
 // Why a call stopped: all is done, a triple was refused, a piece has another length (or a run in parts is none), the words or bytes are no whole triples, the
 // budget is spent; of a line, its name is none, something else is amiss, its line feed is not the last byte and the only one, the output is too short.
-#[derive(Clone, Copy)]
+#[derive(Clone, Copy, PartialEq, Eq)]
 pub enum End {
     Done,
     Refused(Refusal),
@@ -59,113 +62,122 @@ pub enum Counted {
     Clipped(u64),
 }
 
-// One triple's answer, on pieces of right lengths.
-#[derive(Clone, Copy)]
-pub enum Answer {
-    Done(Counted),
-    Refused(Refusal),
-}
+// The papers' numbers.
+impl From<Refusal> for u32 {
+    ghost from_gives = { λ k n. n ≡ number (Refused k) };
 
-fn refused_number(k: Refusal) -> u32
-    ensures { result ≡ number (End.Refused k) }
-{
-    match k {
-        Refusal::Foreign => 1,
-        Refusal::Undocumented => 2,
-        Refusal::SideIndex => 3,
-        Refusal::SideMask => 4,
+    fn from(k: Refusal) -> u32 {
+        match k {
+            Refusal::Foreign => 1,
+            Refusal::Undocumented => 2,
+            Refusal::SideIndex => 3,
+            Refusal::SideMask => 4,
+        }
     }
 }
 
-// The papers' number of an answer.
-pub fn number(e: End) -> u32
-    ensures { result ≡ number e }
-{
-    match e {
-        End::Done => 0,
-        End::Refused(k) => refused_number(k),
-        End::Lengths => 5,
-        End::Ragged => 6,
-        End::Spent => 7,
-        End::Unnamed => 8,
-        End::Amiss => 9,
-        End::Unended => 10,
-        End::Short => 11,
+impl From<End> for u32 {
+    ghost from_gives = { λ e n. n ≡ number e };
+
+    fn from(e: End) -> u32 {
+        match e {
+            End::Done => 0,
+            End::Refused(k) => u32::from(k),
+            End::Lengths => 5,
+            End::Ragged => 6,
+            End::Spent => 7,
+            End::Unnamed => 8,
+            End::Amiss => 9,
+            End::Unended => 10,
+            End::Short => 11,
+        }
     }
 }
 
 // The answer of a number; one above the last is taken for the last.
-pub fn numbered(n: u32) -> End
-    ensures { result ≡ numbered n }
-{
-    match n {
-        0 => End::Done,
-        1 => End::Refused(Refusal::Foreign),
-        2 => End::Refused(Refusal::Undocumented),
-        3 => End::Refused(Refusal::SideIndex),
-        4 => End::Refused(Refusal::SideMask),
-        5 => End::Lengths,
-        6 => End::Ragged,
-        7 => End::Spent,
-        8 => End::Unnamed,
-        9 => End::Amiss,
-        10 => End::Unended,
-        _ => End::Short,
+impl From<u32> for End {
+    ghost from_gives = { λ n e. e ≡ numbered n };
+
+    fn from(n: u32) -> End {
+        match n {
+            0 => End::Done,
+            1 => End::Refused(Refusal::Foreign),
+            2 => End::Refused(Refusal::Undocumented),
+            3 => End::Refused(Refusal::SideIndex),
+            4 => End::Refused(Refusal::SideMask),
+            5 => End::Lengths,
+            6 => End::Ragged,
+            7 => End::Spent,
+            8 => End::Unnamed,
+            9 => End::Amiss,
+            10 => End::Unended,
+            _ => End::Short,
+        }
     }
 }
 
 // How a run ends with a triple's answer.
-pub fn end_of(x: Answer) -> End
+pub fn end_of(x: Result<Counted, Refusal>) -> End
     ensures { result ≡ end_of x }
 {
     match x {
-        Answer::Done(_) => End::Done,
-        Answer::Refused(k) => End::Refused(k),
+        Ok(_) => End::Done,
+        Err(k) => End::Refused(k),
     }
 }
 
-pub fn no_counts() -> Counts
-    ensures { result ≡ none }
-{
-    Counts {
-        accesses: 0,
-        clipped: 0,
+// Nothing is counted. (Written out, since a field of its own is where a wrong count would stand.)
+impl Default for Counts {
+    ghost is_default = { λ c. c ≡ none };
+
+    fn default() -> Counts {
+        Counts {
+            accesses: 0,
+            clipped: 0,
+        }
     }
 }
 
-// The total with a step more.
-pub fn more(total: Counts, n: Counted) -> Counts
-    requires { Within most (plus total (amount n)) }
-    ensures { result ≡ plus total (amount n) }
-{
-    match n {
-        Counted::Nothing => total,
-        Counted::Cells(k) => Counts {
-            accesses: total.accesses + k,
-            clipped: total.clipped,
-        },
-        Counted::Clipped(k) => Counts {
-            accesses: total.accesses,
-            clipped: total.clipped + k,
-        },
+// Two runs' counts, of fewer steps together than a budget can ask for.
+impl Add for Counts {
+    type Output = Counts;
+
+    ghost can_add = { λ x y. Within most (plus x y) };
+
+    ghost add_gives = { λ x y z. z ≡ plus x y };
+
+    fn add(self, y: Counts) -> Counts {
+        Counts {
+            accesses: self.accesses + y.accesses,
+            clipped: self.clipped + y.clipped,
+        }
     }
 }
 
-// The sum of two runs' counts that together have fewer steps than a budget can ask for.
-pub fn sum(x: Counts, y: Counts) -> Counts
-    requires { Within most (plus x y) }
-    ensures { result ≡ plus x y }
-{
-    Counts {
-        accesses: x.accesses + y.accesses,
-        clipped: x.clipped + y.clipped,
+impl Counts {
+    // The total with a step more.
+    pub fn more(self, n: Counted) -> Counts
+        requires { Within most (plus self (amount n)) }
+        ensures { result ≡ plus self (amount n) }
+    {
+        match n {
+            Counted::Nothing => self,
+            Counted::Cells(k) => Counts {
+                accesses: self.accesses + k,
+                clipped: self.clipped,
+            },
+            Counted::Clipped(k) => Counts {
+                accesses: self.accesses,
+                clipped: self.clipped + k,
+            },
+        }
     }
-}
 
-// Whether n steps can have counted this.
-pub fn within(n: u32, c: Counts) -> bool
-    ensures { result ≡ within_of n c }
-{
-    let most = n as u64 * 16;
-    (c.accesses <= most) & (c.clipped <= most)
+    // Whether n steps can have counted this.
+    pub fn within(self, n: u32) -> bool
+        ensures { result ≡ within_of n self }
+    {
+        let most = n as u64 * 16;
+        (self.accesses <= most) & (self.clipped <= most)
+    }
 }

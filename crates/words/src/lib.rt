@@ -23,7 +23,7 @@ pub struct AccessAdd {
 }
 
 // The instructions, by the chapter's names, each with its word, and what it has from the side inputs: the register of SRC2S, the side mask
-// word. What each means is in specs/Meant.antt. All are 32-bit words at the same places, so that the compiler keeps them in registers.
+// word. What each means is in specs/Inner/Meant.antt. All are 32-bit words at the same places, so that the compiler keeps them in registers.
 #[derive(Clone, Copy)]
 pub enum Insn {
     VminS(u32),
@@ -69,12 +69,6 @@ pub enum Insn {
     Stvh(u32),
     Stvv(u32),
     Sts(u32),
-}
-
-#[derive(Clone, Copy)]
-pub enum Decoded {
-    Insn(Insn),
-    Refused(Refusal),
 }
 
 // Every field of a word, whichever of them its opcode uses.
@@ -130,24 +124,24 @@ fn op_of(word: u32) -> u8
 }
 
 // An instruction that uses SRC2S: refused where the side index is above 31.
-fn side_checked(side: u32, i: Insn) -> Decoded
+fn side_checked(side: u32, i: Insn) -> Result<Insn, Refusal>
     ensures { meant_d result ≡ sided_by side i }
 {
     if side < 32 {
-        Decoded::Insn(i)
+        Ok(i)
     } else {
-        Decoded::Refused(Refusal::SideIndex)
+        Err(Refusal::SideIndex)
     }
 }
 
 // vcmpad: refused where the side mask word has a bit above bit 16.
-fn mask_checked(mask: u32, i: Insn) -> Decoded
+fn mask_checked(mask: u32, i: Insn) -> Result<Insn, Refusal>
     ensures { meant_d result ≡ masked_by mask i }
 {
     if mask < 131072 {
-        Decoded::Insn(i)
+        Ok(i)
     } else {
-        Decoded::Refused(Refusal::SideMask)
+        Err(Refusal::SideMask)
     }
 }
 
@@ -173,46 +167,46 @@ fn by_immediate(word: u32) -> AccessAdd
 }
 
 // One decision over the opcode number.
-pub fn decode(word: u32, side: u32, mask: u32) -> Decoded
+pub fn decode(word: u32, side: u32, mask: u32) -> Result<Insn, Refusal>
     ensures { meant_d result ≡ decode_of word side mask }
 {
     let op = op_of(word);
     match op {
-        0x88 => Decoded::Insn(Insn::VminS(word)),
-        0x89 => Decoded::Insn(Insn::VmaxS(word)),
-        0x8a => Decoded::Insn(Insn::VabsS(word)),
-        0x8b => Decoded::Insn(Insn::VnegS(word)),
-        0x8c => Decoded::Insn(Insn::VaddS(word)),
-        0x8d => Decoded::Insn(Insn::VsubS(word)),
-        0x8e => Decoded::Insn(Insn::Vsar(word)),
+        0x88 => Ok(Insn::VminS(word)),
+        0x89 => Ok(Insn::VmaxS(word)),
+        0x8a => Ok(Insn::VabsS(word)),
+        0x8b => Ok(Insn::VnegS(word)),
+        0x8c => Ok(Insn::VaddS(word)),
+        0x8d => Ok(Insn::VsubS(word)),
+        0x8e => Ok(Insn::Vsar(word)),
         0x8f => mask_checked(mask, Insn::Vcmpad(word, mask)),
-        0x94 => Decoded::Insn(Insn::Vbitop(word)),
-        0x98 => Decoded::Insn(Insn::VminU(word)),
-        0x99 => Decoded::Insn(Insn::VmaxU(word)),
-        0x9a => Decoded::Insn(Insn::VabsU(word)),
-        0x9b => Decoded::Insn(Insn::Vswz(word)),
-        0x9c => Decoded::Insn(Insn::VaddU(word)),
-        0x9d => Decoded::Insn(Insn::VsubU(word)),
-        0x9e => Decoded::Insn(Insn::Vshr(word)),
-        0x9f => Decoded::Insn(Insn::Vadd9(word)),
-        0xa4 => Decoded::Insn(Insn::Vclip(word)),
-        0xa5 => Decoded::Insn(Insn::Vminabs(word)),
-        0xa8 => Decoded::Insn(Insn::VminS(word)),
-        0xa9 => Decoded::Insn(Insn::VmaxS(word)),
-        0xaa => Decoded::Insn(Insn::Vand(word)),
-        0xab => Decoded::Insn(Insn::Vxor(word)),
-        0xac => Decoded::Insn(Insn::VaddS(word)),
-        0xad => Decoded::Insn(Insn::Vmov(word)),
-        0xae => Decoded::Insn(Insn::Vsar(word)),
-        0xaf => Decoded::Insn(Insn::Vor(word)),
-        0xb8 => Decoded::Insn(Insn::VminU(word)),
-        0xb9 => Decoded::Insn(Insn::VmaxU(word)),
-        0xba => Decoded::Insn(Insn::Mov(word)),
-        0xbb => Decoded::Insn(Insn::MovVc(word)),
-        0xbc => Decoded::Insn(Insn::VaddU(word)),
-        0xbd => Decoded::Insn(Insn::VsubU(word)),
-        0xbe => Decoded::Insn(Insn::Vshr(word)),
-        0xbf => Decoded::Insn(Insn::Nop),
+        0x94 => Ok(Insn::Vbitop(word)),
+        0x98 => Ok(Insn::VminU(word)),
+        0x99 => Ok(Insn::VmaxU(word)),
+        0x9a => Ok(Insn::VabsU(word)),
+        0x9b => Ok(Insn::Vswz(word)),
+        0x9c => Ok(Insn::VaddU(word)),
+        0x9d => Ok(Insn::VsubU(word)),
+        0x9e => Ok(Insn::Vshr(word)),
+        0x9f => Ok(Insn::Vadd9(word)),
+        0xa4 => Ok(Insn::Vclip(word)),
+        0xa5 => Ok(Insn::Vminabs(word)),
+        0xa8 => Ok(Insn::VminS(word)),
+        0xa9 => Ok(Insn::VmaxS(word)),
+        0xaa => Ok(Insn::Vand(word)),
+        0xab => Ok(Insn::Vxor(word)),
+        0xac => Ok(Insn::VaddS(word)),
+        0xad => Ok(Insn::Vmov(word)),
+        0xae => Ok(Insn::Vsar(word)),
+        0xaf => Ok(Insn::Vor(word)),
+        0xb8 => Ok(Insn::VminU(word)),
+        0xb9 => Ok(Insn::VmaxU(word)),
+        0xba => Ok(Insn::Mov(word)),
+        0xbb => Ok(Insn::MovVc(word)),
+        0xbc => Ok(Insn::VaddU(word)),
+        0xbd => Ok(Insn::VsubU(word)),
+        0xbe => Ok(Insn::Vshr(word)),
+        0xbf => Ok(Insn::Nop),
         0xc0 => side_checked(side, Insn::Ldavh(by_register(word, side))),
         0xc1 => side_checked(side, Insn::Ldavv(by_register(word, side))),
         0xc2 => side_checked(side, Insn::Ldas(by_register(word, side))),
@@ -221,22 +215,22 @@ pub fn decode(word: u32, side: u32, mask: u32) -> Decoded
         0xc6 => side_checked(side, Insn::Stas(by_register(word, side))),
         0xca => side_checked(side, Insn::Aadd(word, side)),
         0xcb => side_checked(side, Insn::Add(word, side)),
-        0xcc => Decoded::Insn(Insn::Setlo(word)),
-        0xcd => Decoded::Insn(Insn::Sethi(word)),
-        0xd0 => Decoded::Insn(Insn::Ldavh(by_immediate(word))),
-        0xd1 => Decoded::Insn(Insn::Ldavv(by_immediate(word))),
-        0xd2 => Decoded::Insn(Insn::Ldas(by_immediate(word))),
-        0xd3 => Decoded::Insn(Insn::Bitop(word)),
-        0xd4 => Decoded::Insn(Insn::Stavh(by_immediate(word))),
-        0xd5 => Decoded::Insn(Insn::Stavv(by_immediate(word))),
-        0xd6 => Decoded::Insn(Insn::Stas(by_immediate(word))),
-        0xd8 => Decoded::Insn(Insn::Ldvh(word)),
-        0xd9 => Decoded::Insn(Insn::Ldvv(word)),
-        0xda => Decoded::Insn(Insn::Lds(word)),
-        0xdc => Decoded::Insn(Insn::Stvh(word)),
-        0xdd => Decoded::Insn(Insn::Stvv(word)),
-        0xde => Decoded::Insn(Insn::Sts(word)),
-        0xdf => Decoded::Insn(Insn::Nop),
+        0xcc => Ok(Insn::Setlo(word)),
+        0xcd => Ok(Insn::Sethi(word)),
+        0xd0 => Ok(Insn::Ldavh(by_immediate(word))),
+        0xd1 => Ok(Insn::Ldavv(by_immediate(word))),
+        0xd2 => Ok(Insn::Ldas(by_immediate(word))),
+        0xd3 => Ok(Insn::Bitop(word)),
+        0xd4 => Ok(Insn::Stavh(by_immediate(word))),
+        0xd5 => Ok(Insn::Stavv(by_immediate(word))),
+        0xd6 => Ok(Insn::Stas(by_immediate(word))),
+        0xd8 => Ok(Insn::Ldvh(word)),
+        0xd9 => Ok(Insn::Ldvv(word)),
+        0xda => Ok(Insn::Lds(word)),
+        0xdc => Ok(Insn::Stvh(word)),
+        0xdd => Ok(Insn::Stvv(word)),
+        0xde => Ok(Insn::Sts(word)),
+        0xdf => Ok(Insn::Nop),
         0x80..=0x87
         | 0x90..=0x93
         | 0x95..=0x97
@@ -247,7 +241,7 @@ pub fn decode(word: u32, side: u32, mask: u32) -> Decoded
         | 0xc7..=0xc9
         | 0xce..=0xcf
         | 0xd7
-        | 0xdb => { Decoded::Refused(Refusal::Undocumented) }
-        _ => Decoded::Refused(Refusal::Foreign),
+        | 0xdb => { Err(Refusal::Undocumented) }
+        _ => Err(Refusal::Foreign),
     }
 }

@@ -1,5 +1,5 @@
 -- What the code's flat instruction means: the model's instruction, with the operands cut from the payload's bits.
-use Rattle.std.specs.Prelude.{ℕ, ◌/◌, ◌%◌, Bool, true, false, cond, ltb, eqb}
+use Rattle.std.specs.Prelude.{Ok, Err, ℕ, ◌/◌, ◌%◌, Bool, true, false, cond, ltb, eqb}
 use Rattle.terms.specs.declared.Way.TheVariants.{Horizontal, Vertical, Scalar}
 use Rattle.lane.specs.declared.Calc.TheVariants.{Min, Max, Abs, Neg, Add, Sub}
 use Rattle.lane.specs.declared.Logic.TheVariants.{And, Xor, Or}
@@ -15,8 +15,8 @@ use Rattle.words.specs.declared.Increment.{Increment}
 use Rattle.words.specs.declared.AccessAdd.{AccessAdd}
 use Rattle.words.specs.declared.Insn.{Insn}
 use Rattle.words.specs.declared.Insn.TheVariants as I
-use Rattle.words.specs.declared.Decoded.{Decoded}
-use Rattle.words.specs.declared.Decoded.TheVariants as C
+use Rattle.std.specs.declared.result.Result.{Result}
+use Rattle.terms.specs.declared.Refusal.{Refusal}
 
 -- of the instructions that have source 2 both ways: the chapter's "if opcode & 0x20: s2 = BIMM"
 abbrev pub by_byte : ℕ → Bool
@@ -74,9 +74,9 @@ meant (I.Stvh w) = N.Address (st_of (fields_of w) Horizontal)
 meant (I.Stvv w) = N.Address (st_of (fields_of w) Vertical)
 meant (I.Sts w) = N.Address (st_of (fields_of w) Scalar)
 
-abbrev pub meant_d : Decoded → D.Decoded
-meant_d (C.Insn i) = D.Insn (meant i)
-meant_d (C.Refused k) = D.Refused k
+abbrev pub meant_d : Result Insn Refusal → D.Decoded
+meant_d (Ok i) = D.Insn (meant i)
+meant_d (Err k) = D.Refused k
 
 -- refused where the side index is above 31, or the side mask word above 0x1ffff
 abbrev pub sided_by : ℕ → Insn → D.Decoded

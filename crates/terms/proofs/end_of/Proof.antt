@@ -1,7 +1,0 @@
--- `terms::end_of` meets its contract.
-use borrow.Author.Rules.{rules}
-use Rattle.terms.proofs.end_of.Statement.{statement}
-use Rattle.terms.proofs.end_of.Tie as tie
-
-pub end_of_spec : {M : Type 1} → statement M
-end_of_spec = tie.close (tie.spec (λ c. search rules) (λ c. search rules) (λ c. search rules) (λ c. cc))
