@@ -7,10 +7,7 @@ use std::env::{Env, FillError};
 pub fn whole(rt: HostRuntime, i: usize, room: &mut [u8]) -> usize
     ensures { IsPrefixLen result room.new }
 {
-    match rt.arg(i, room) {
-        Ok(n) => n,
-        Err(_) => 0,
-    }
+    rt.arg(i, room).unwrap_or(0)
 }
 
 // The same, but of one that is longer than room the first bytes are taken, as many as there is room for.
@@ -26,18 +23,12 @@ pub fn beginning(rt: HostRuntime, i: usize, room: &mut [u8]) -> usize
 
 fn is_there(rt: HostRuntime, i: usize) -> bool {
     let mut first = [0u8; 1];
-    match rt.arg(i, &mut first) {
-        Err(FillError::NotPresent) => false,
-        _ => true,
-    }
+    !matches!(rt.arg(i, &mut first), Err(FillError::NotPresent))
 }
 
 // How many there are.
 pub fn count(rt: HostRuntime) -> usize {
-    for i in 0..usize::MAX {
-        if !is_there(rt, i) {
-            return i;
-        }
-    }
-    usize::MAX
+    (0..usize::MAX)
+        .find(|&i| !is_there(rt, i))
+        .unwrap_or(usize::MAX)
 }

@@ -1,53 +1,40 @@
-// Where something stands in a text, and whether two texts are one.
-ghost use Rattle.std.specs.Prelude.{◌≤◌, length};
+// Where something stands in a text.
+ghost use Rattle.std.specs.Prelude.{◌≡◌, ◌==◌, ◌||◌, ◌≤◌, length};
 ghost use Rattle.text.specs.Counts.{IsPrefixLen};
 
-// What is looked for: a line feed, the start of a comment, a space or line feed.
-#[derive(Clone, Copy)]
-pub enum What {
-    Feed,
-    Comment,
-    Gap,
-}
-
 pub fn blank(b: u8) -> bool {
-    match b {
-        b' ' | b'\t' | b'\r' => true,
-        _ => false,
-    }
+    matches!(b, b' ' | b'\t' | b'\r')
 }
 
-fn is(b: u8, what: What) -> bool {
-    match what {
-        What::Feed => b == b'\n',
-        What::Comment => b == b'#' || b == b';',
-        What::Gap => b == b' ' || b == b'\n',
-    }
+// The end of a line.
+pub fn feed(b: u8) -> bool
+    ensures { result ≡ (b == 10) }
+{
+    b == b'\n'
 }
 
-// Where it stands first from a place on, or the text's length.
-pub fn find(text: &[u8], from: usize, what: What) -> usize
-    requires { from ≤ length text.now }
+// The start of a comment.
+pub fn comment(b: u8) -> bool
+    ensures { result ≡ (b == 35 || b == 59) }
+{
+    matches!(b, b'#' | b';')
+}
+
+// The end of a word.
+pub fn gap(b: u8) -> bool
+    ensures { result ≡ (b == 32 || b == 10) }
+{
+    matches!(b, b' ' | b'\n')
+}
+
+// Where the first byte stands, from a place on, of which `what` holds, or the text's length.
+pub fn find<F: Fn(u8) -> bool>(text: &[u8], from: usize, what: F) -> usize
+    requires within { from ≤ length text.now }
+    requires callable { F.IsAlwaysCallable what }
     ensures { (from ≤ result) × IsPrefixLen result text.now }
 {
-    let mut i = from;
-    while i < text.len() {
-        if is(text[i], what) {
-            return i;
-        }
-        i += 1;
+    match text[from..].iter().position(|&b| what(b)) {
+        Some(n) => from + n,
+        None => text.len(),
     }
-    i
-}
-
-pub fn same(a: &[u8], b: &[u8]) -> bool {
-    if a.len() != b.len() {
-        return false;
-    }
-    for i in 0..a.len() {
-        if a[i] != b[i] {
-            return false;
-        }
-    }
-    true
 }

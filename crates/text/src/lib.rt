@@ -2,8 +2,7 @@
 #![tactic(auto)]
 
 pub mod args; // args.rt: the arguments of a program
-pub mod count; // count.rt: one more, and what fits
-pub mod digits; // digits.rt: the value of a digit
+pub mod count; // count.rt: what fits
 pub mod find; // find.rt: where something stands in a text
 pub mod input; // input.rt: what is read of a file
 pub mod number; // number.rt: what number a text is

@@ -2,16 +2,11 @@
 ghost use Rattle.std.specs.Prelude.{◌+◌, ◌<◌, ◌≤◌, length};
 ghost use Rattle.text.specs.Counts.{IsPrefixLen};
 
-use crate::find::{What, blank, find};
+use crate::find::{blank, comment, find};
 
-// Whether a space may stand behind the first n bytes: neither at the start nor behind another one.
-fn may_part(out: &[u8], n: usize) -> bool
-    requires { n ≤ length out.now }
-{
-    if n == 0 {
-        return false;
-    }
-    out[n - 1] != b' '
+// Whether a space may stand behind these bytes: neither at the start nor behind another one.
+fn may_part(done: &[u8]) -> bool {
+    done.last().is_some_and(|&b| b != b' ')
 }
 
 // One byte more behind the first n, or none.
@@ -23,25 +18,11 @@ fn put(out: &mut [u8], n: usize, b: u8) -> usize
         out[n] = b;
         return n + 1;
     }
-    if may_part(out, n) {
+    if may_part(&out[..n]) {
         out[n] = b' ';
         return n + 1;
     }
     n
-}
-
-// Without the space at the end, if there is one.
-fn trimmed(out: &[u8], n: usize) -> usize
-    requires { n ≤ length out.now }
-    ensures { result ≤ n }
-{
-    if n == 0 {
-        return 0;
-    }
-    if may_part(out, n) {
-        return n;
-    }
-    n - 1
 }
 
 // Puts what is left of the part at the start of out, and answers how many bytes that is.
@@ -50,10 +31,11 @@ pub fn squeeze(part: &[u8], out: &mut [u8]) -> usize
     ensures { result ≤ length part.now }
 {
     let mut n = 0;
-    for i in 0..part.len() {
-        n = put(out, n, part[i]);
+    for &b in part {
+        n = put(out, n, b);
     }
-    trimmed(out, n)
+    let done = &out[..n];
+    done.strip_suffix(b" ").unwrap_or(done).len()
 }
 
 // Puts what is left of a line, and a line feed, at the start of room, and answers how many bytes that is.
@@ -61,7 +43,7 @@ pub fn clean(line: &[u8], room: &mut [u8]) -> usize
     requires { length line.now < length room.old }
     ensures { IsPrefixLen result room.new }
 {
-    let cut = find(line, 0, What::Comment);
+    let cut = find(line, 0, comment);
     let n = squeeze(&line[..cut], room);
     room[n] = b'\n';
     n + 1

@@ -1,9 +1,0 @@
--- `text::find::find` meets its contract: it stops between the place and the end.
-use Rattle.std.proofs.Common.{◌-◌, ◌≤◌, length}
-use Rattle.text.proofs.find.find.Given as goal
-
-abbrev pub invariant-loop-i : goal.invariant-loop-i
-invariant-loop-i l = (l.from ≤ l.i) × (l.i ≤ length l.text)
-
-abbrev pub decreases-loop-i : goal.decreases-loop-i
-decreases-loop-i l = length l.text - l.i
