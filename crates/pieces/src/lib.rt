@@ -1,35 +1,18 @@
 // The lent pieces: whether all six have the right lengths, and one register, or one register's flags, of a piece.
 #![tactic(auto)]
 
-ghost use Rattle.std.specs.Prelude.{◌≡◌, ◌<◌, length};
+ghost use Rattle.std.specs.Prelude.{◌≡◌, ◌<◌};
 ghost use Rattle.pieces.specs.State.{lengths};
 ghost use Rattle.pieces.specs.Inner.Regs.{vreg_of, with_vreg, base_of, with_half, plus, with_long, with_end, long_at, end_at, flags_at};
 
 use terms::Half;
 
 // All six lengths are right.
+#[tactic(auto, unfolding(crate::specs::State::lengths))]
 pub fn sized(ds: usize, a: usize, r: usize, c: usize, vc: usize, v: usize) -> bool
     ensures { result ≡ lengths ds a r c vc v }
 {
-    if ds != 8192 {
-        return false;
-    }
-    if a != 32 {
-        return false;
-    }
-    if r != 32 {
-        return false;
-    }
-    if c != 4 {
-        return false;
-    }
-    if vc != 4 {
-        return false;
-    }
-    if v != 512 {
-        return false;
-    }
-    true
+    ds == 8192 && a == 32 && r == 32 && c == 4 && vc == 4 && v == 512
 }
 
 // The fields of an $a word.
@@ -40,6 +23,7 @@ pub struct Base {
     pub stride: usize,
 }
 
+#[tactic(auto, unfolding(crate::specs::Inner::Regs::base_of))]
 pub fn base_of(word: u32) -> Base
     ensures { result ≡ base_of word }
 {
@@ -50,24 +34,27 @@ pub fn base_of(word: u32) -> Base
     }
 }
 
+#[tactic(auto, unfolding(crate::specs::Inner::Regs::with_half))]
 pub fn with_half(half: Half, x: u16, word: u32) -> u32
     ensures { result ≡ with_half half x word }
 {
     match half {
-        Half::Low => word / 65536 * 65536 + x as u32,
-        Half::High => x as u32 * 65536 + word % 65536,
+        Half::Low => word / 65536 * 65536 + u32::from(x),
+        Half::High => u32::from(x) * 65536 + word % 65536,
     }
 }
 
 // An $a word with addr moved on by y: nothing else of the word changes.
+#[tactic(auto, unfolding(crate::specs::Inner::Regs::base_of))]
 pub fn moved(word: u32, y: u16) -> u32
     ensures { result ≡ with_half Half.Low (plus (base_of word).addr y) word }
 {
-    let x = std::num::wrapping_add_u16((word % 65536) as u16, y);
+    let x = ((word % 65536) as u16).wrapping_add(y);
     with_half(Half::Low, x, word)
 }
 
 // Bit 8: bit 31 of the result. Bit 9: the result is 0.
+#[tactic(auto, unfolding(crate::specs::Inner::Regs::with_long))]
 fn with_long(res: u32, word: u32) -> u32
     ensures { result ≡ with_long res word }
 {
@@ -78,8 +65,8 @@ fn with_long(res: u32, word: u32) -> u32
     }
 }
 
-pub fn set_long(c: &mut [u32], cdst: usize, res: u32)
-    requires { length c.old ≡ 4 }
+#[tactic(auto, unfolding(crate::specs::Inner::Regs::long_at))]
+pub fn set_long(c: &mut [u32; 4], cdst: usize, res: u32)
     ensures { c.new ≡ long_at cdst res c.old }
 {
     if cdst < 4 {
@@ -88,6 +75,7 @@ pub fn set_long(c: &mut [u32], cdst: usize, res: u32)
 }
 
 // Bit 10: addr >= limit.
+#[tactic(auto, unfolding(crate::specs::Inner::Regs::with_end))]
 fn with_end(addr: u16, limit: u16, word: u32) -> u32
     ensures { result ≡ with_end addr limit word }
 {
@@ -98,8 +86,8 @@ fn with_end(addr: u16, limit: u16, word: u32) -> u32
     }
 }
 
-pub fn set_end(c: &mut [u32], cdst: usize, addr: u16, limit: u16)
-    requires { length c.old ≡ 4 }
+#[tactic(auto, unfolding(crate::specs::Inner::Regs::end_at))]
+pub fn set_end(c: &mut [u32; 4], cdst: usize, addr: u16, limit: u16)
     ensures { c.new ≡ end_at cdst addr limit c.old }
 {
     if cdst < 4 {
@@ -107,38 +95,29 @@ pub fn set_end(c: &mut [u32], cdst: usize, addr: u16, limit: u16)
     }
 }
 
-pub fn set_flags(vc: &mut [u32], vcdst: usize, signs: u16, zeros: u16)
-    requires { length vc.old ≡ 4 }
+#[tactic(auto, unfolding(crate::specs::Inner::Regs::flags_at))]
+pub fn set_flags(vc: &mut [u32; 4], vcdst: usize, signs: u16, zeros: u16)
     ensures { vc.new ≡ flags_at vcdst signs zeros vc.old }
 {
     if vcdst < 4 {
-        vc[vcdst] = zeros as u32 * 65536 + signs as u32;
+        vc[vcdst] = u32::from(zeros) * 65536 + u32::from(signs);
     }
 }
 
 // $v[n], as one value.
-pub fn vreg(v: &[u8], n: usize) -> [u8; 16]
-    requires { (length v.now ≡ 512) × (n < 32) }
+#[tactic(auto, unfolding(crate::specs::Inner::Regs::vreg_of))]
+pub fn vreg(v: &[u8; 512], n: usize) -> [u8; 16]
+    requires { n < 32 }
     ensures { result ≡ vreg_of v.now n }
 {
-    let at = 16 * n;
-    let mut x = [0u8; 16];
-    let mut i = 0;
-    while i < 16 {
-        x[i] = v[at + i];
-        i += 1;
-    }
+    let mut x = [0; 16];
+    x.copy_from_slice(&v[16 * n..16 * n + 16]);
     x
 }
 
-pub fn set_vreg(v: &mut [u8], n: usize, x: [u8; 16])
-    requires { (length v.old ≡ 512) × (n < 32) }
+pub fn set_vreg(v: &mut [u8; 512], n: usize, x: [u8; 16])
+    requires { n < 32 }
     ensures { v.new ≡ with_vreg v.old n x }
 {
-    let at = 16 * n;
-    let mut i = 0;
-    while i < 16 {
-        v[at + i] = x[i];
-        i += 1;
-    }
+    v[16 * n..16 * n + 16].copy_from_slice(&x);
 }
