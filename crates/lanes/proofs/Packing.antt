@@ -1,16 +1,19 @@
--- Packed flags: they fit sixteen bits, are added up as binary digits, may be gathered turned over, and each is a bit of the number.
+-- Packed flags: they fit sixteen bits, each is a bit of the number, and the mask of sixteen tests is they.
 use mathlib.Core.Path.{◌≡◌, refl, sym, ap, ◌∙◌}
-use mathlib.Core.Bool.{Bool, true, false, cond, not}
-use mathlib.Core.List.{List}
-use Prim.Native.Nat.{ℕ, zero, suc, ◌+◌, ◌*◌, ◌-◌, ◌/◌, ◌%◌, ◌^◌, ◌<◌}
+use mathlib.Core.Bool.{Bool, true, false, cond}
+use mathlib.Core.List.{List, [], ◌∷◌, map}
+use Prim.Native.Nat.{ℕ, zero, suc, ◌+◌, ◌*◌, ◌/◌, ◌%◌, ◌^◌, ◌<◌}
 use native.Mathlib.Nat.{pow-suc}
 use native.Mathlib.Omega.{arith}
-use lib.Dec.{ltb, leb}
-use lib.ListN.{get_or}
+use lib.Dec.{eqb, leb}
+use lib.ListN.{length, get_or, replicate}
+use lib.Lanes.{zip2, mask_l, top}
 use lib.Pow.{shr-shr}
-use borrow.Author.Tests.{ltb-true, ltb-false, lt-leb, le-leb}
+use Rattle.std.specs.Int.{w8}
+use Rattle.std.proofs.lemmas.List.{length-map}
+use Rattle.std.proofs.lemmas.Simd.{tops_compared, zip2_splat, zip2_splat_left, mask_l-mod}
 use Rattle.lanes.specs.Lanes.{flags}
-use Rattle.lanes.specs.Inner.Unpacked.{tops_of, eight}
+use Rattle.lanes.specs.Inner.Unpacked.{zeros_of, tops_of}
 
 pub flags_same : (n : ℕ) (g h : ℕ → Bool) → ((i : ℕ) → i < n → g i ≡ h i) → flags n g ≡ flags n h
 unfolding flags
@@ -26,63 +29,13 @@ flags_lt (suc n) g = pick (g n) (flags_lt n g)
     pick true h = omega (arith, pow-suc 2 n)
     pick false h = omega (arith, pow-suc 2 n)
 
+pub zeros_lt : (l : List ℕ) → zeros_of l < 65536
+unfolding zeros_of
+zeros_lt l = flags_lt 16 (λ i. eqb (get_or l i 0) 0)
+
 pub tops_lt : (l : List ℕ) → tops_of l < 65536
 unfolding tops_of
 tops_lt l = flags_lt 16 (λ i. leb 0x80 (get_or l i 0))
-
--- a flag and its weight
-up : (t : Bool) (w : ℕ) → cond t w 0 ≡ cond t 1 0 * w
-up true w = omega arith
-up false w = omega arith
-
--- two halves of eight digits
-pub digits : (g : ℕ → Bool)
-    → eight (g 0) (g 1) (g 2) (g 3) (g 4) (g 5) (g 6) (g 7) + eight (g 8) (g 9) (g 10) (g 11) (g 12) (g 13) (g 14) (g 15) * 256 ≡ flags 16 g
-unfolding flags
-digits g =
-    omega (
-      arith,
-      up (g 1) 2,
-      up (g 2) 4,
-      up (g 3) 8,
-      up (g 4) 16,
-      up (g 5) 32,
-      up (g 6) 64,
-      up (g 7) 128,
-      up (g 8) 256,
-      up (g 9) 512,
-      up (g 10) 1024,
-      up (g 11) 2048,
-      up (g 12) 4096,
-      up (g 13) 8192,
-      up (g 14) 16384,
-      up (g 15) 32768,
-    )
-
--- flags and those turned over make all of them
-over : (n : ℕ) (g : ℕ → Bool) → flags n g + flags n (λ i. not (g i)) + 1 ≡ 2 ^ n
-unfolding flags
-over zero g = refl
-over (suc n) g = pick (g n) (over n g)
-  where
-    pick : (t : Bool) → flags n g + flags n (λ i. not (g i)) + 1 ≡ 2 ^ n
-        → cond t (2 ^ n) 0 + flags n g + (cond (not t) (2 ^ n) 0 + flags n (λ i. not (g i))) + 1 ≡ 2 ^ suc n
-    pick true e = omega (arith, pow-suc 2 n)
-    pick false e = omega (arith, pow-suc 2 n)
-
-clear : (x : ℕ) → ltb x 128 ≡ not (leb 0x80 x)
-clear x = pick (ltb x 128) refl
-  where
-    pick : (t : Bool) → ltb x 128 ≡ t → t ≡ not (leb 0x80 x)
-    pick true e = rw (lt-leb 0x80 x (ltb-true x 128 e))
-    pick false e = rw (le-leb 0x80 x (ltb-false x 128 e))
-
--- the bytes with bit 7 set, by those that have it clear
-pub tops_over : (l : List ℕ) → 0xffff - flags 16 (λ i. ltb (get_or l i 0) 128) ≡ tops_of l
-unfolding tops_of
-tops_over l =
-    let e = flags_same 16 (λ i. ltb (get_or l i 0) 128) (λ i. not (leb 0x80 (get_or l i 0))) (λ i h. clear (get_or l i 0)) in
-    omega (arith, e, over 16 (λ i. leb 0x80 (get_or l i 0)))
 
 -- flags from the low end
 pub flags_low : (n : ℕ) (f : ℕ → Bool) → flags (suc n) f ≡ flags n (λ i. f (suc i)) * 2 + cond (f 0) 1 0
@@ -94,6 +47,25 @@ flags_low (suc n) f = pick (f (suc n)) (flags_low n f)
         → cond t (2 ^ suc n) 0 + flags (suc n) f ≡ (cond t (2 ^ n) 0 + flags n (λ i. f (suc i))) * 2 + cond (f 0) 1 0
     pick true e = omega (arith, pow-suc 2 n)
     pick false e = omega arith
+
+-- the mask of a test of each byte, and what two vectors' comparison makes of it
+mask_flags : (p : ℕ → Bool) (l : List ℕ) → mask_l (map p l) ≡ flags (length l) (λ i. p (get_or l i 0))
+unfolding flags
+mask_flags p [] = refl
+mask_flags p (x ∷ xs) = rw (flags_low (length xs) (λ i. p (get_or (x ∷ xs) i 0)), mask_flags p xs) (omega arith)
+
+pub compared : (t : ℕ → ℕ → Bool) (p : ℕ → Bool) (xs ys l : List ℕ) → length l ≡ 16 → zip2 t xs ys ≡ map p l
+    → mask_l (map (top 7) (zip2 (λ a b. cond (t a b) 255 0) xs ys)) % 2 ^ 64 ≡ flags 16 (λ i. p (get_or l i 0))
+compared t p xs ys l e h =
+    rw (tops_compared w8 t xs ys, h, mask_l-mod (map p l) 64 (omega (arith, e, length-map l p)), mask_flags p l, e) refl
+
+pub zero_mask : (l : List ℕ) → length l ≡ 16 → mask_l (map (top 7) (zip2 (λ a b. cond (eqb a b) 255 0) l (replicate 16 0))) % 2 ^ 64 ≡ zeros_of l
+unfolding zeros_of
+zero_mask l e = compared eqb (λ x. eqb x 0) l (replicate 16 0) l e (zip2_splat eqb l 16 0 e)
+
+pub top_mask : (l : List ℕ) → length l ≡ 16 → mask_l (map (top 7) (zip2 (λ a b. cond (leb a b) 255 0) (replicate 16 0x80) l)) % 2 ^ 64 ≡ tops_of l
+unfolding tops_of
+top_mask l e = compared leb (leb 0x80) (replicate 16 0x80) l l e (zip2_splat_left leb 0x80 16 l e)
 
 pub digit : (t : Bool) → cond t 1 0 < 2
 digit true = omega arith

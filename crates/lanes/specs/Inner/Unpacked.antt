@@ -1,6 +1,6 @@
 -- A result whose flags are not packed yet: what it stands for once they are, and exactly which one each operation hands back. What an operation
 -- does is said in lane's Lane.antt and in Lanes.antt, and proofs/Unpacking.antt shows that each result here stands for that.
-use Rattle.std.specs.Prelude.{Bool, true, false, cond, List, ℕ, ◌+◌, ◌*◌, ◌-◌, ◌%◌, eqb, ltb, leb, get_or}
+use Rattle.std.specs.Prelude.{Bool, true, false, cond, List, ℕ, ◌-◌, ◌%◌, eqb, ltb, leb, get_or}
 use Rattle.lane.specs.Lane.{Lane, arith_lane, shift_lane, clip_lane, min_abs_lane, add9_lane, bitop_lane, logic_lane, mov_lane, mov_imm_lane}
 use Rattle.lane.specs.declared.Calc.{Calc}
 use Rattle.lane.specs.declared.Logic.{Logic}
@@ -75,13 +75,3 @@ mov_unpacked a = unpacked_of (λ i. sign_beside (mov_lane (get_or a i 0)))
 
 unfoldable pub mov_imm_unpacked : ℕ → Unpacked
 mov_imm_unpacked byte = unpacked_of (λ i. both_in (mov_imm_lane byte))
-
--- what the code adds up: the number whose binary digits these are, the lowest first
-abbrev pub two : Bool → Bool → ℕ
-two a b = cond a 1 0 + cond b 1 0 * 2
-
-abbrev pub four : Bool → Bool → Bool → Bool → ℕ
-four a b c d = two a b + two c d * 4
-
-abbrev pub eight : Bool → Bool → Bool → Bool → Bool → Bool → Bool → Bool → ℕ
-eight a b c d e f g h = four a b c d + four e f g h * 16
