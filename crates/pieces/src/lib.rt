@@ -105,19 +105,19 @@ pub fn set_flags(vc: &mut [u32; 4], vcdst: usize, signs: u16, zeros: u16)
 }
 
 // $v[n], as one value.
-#[tactic(auto, unfolding(crate::specs::Inner::Regs::vreg_of))]
 pub fn vreg(v: &[u8; 512], n: usize) -> [u8; 16]
     requires { n < 32 }
     ensures { result ≡ vreg_of v.now n }
 {
-    let mut x = [0; 16];
-    x.copy_from_slice(&v[16 * n..16 * n + 16]);
-    x
+    v.as_chunks::<16>().0[n]
 }
 
+// Byte by byte, which becomes one move of sixteen: `copy_from_slice` would first ask whether the two parts of memory meet.
 pub fn set_vreg(v: &mut [u8; 512], n: usize, x: [u8; 16])
     requires { n < 32 }
     ensures { v.new ≡ with_vreg v.old n x }
 {
-    v[16 * n..16 * n + 16].copy_from_slice(&x);
+    for (i, byte) in x.iter().enumerate() {
+        v[16 * n + i] = *byte;
+    }
 }
