@@ -1,18 +1,22 @@
 -- How many of sixteen components something holds of.
-use mathlib.Core.Path.{◌≡◌, refl}
+use mathlib.Core.Path.{◌≡◌, refl, sym, ap}
 use mathlib.Core.Bool.{Bool, true, false, cond}
-use mathlib.Core.List.{List}
-use Prim.Native.Nat.{ℕ, zero, suc, ◌+◌, ◌%◌, ◌≤◌, ◌<◌}
-use native.Mathlib.Numerals.{add-one}
+use mathlib.Core.List.{List, [], ◌∷◌, map}
+use Prim.Native.Nat.{ℕ, zero, suc, ◌+◌, ◌%◌, ◌^◌, ◌≤◌, ◌<◌}
 use native.Mathlib.Omega.{arith}
 use lib.Dec.{eqb}
-use lib.ListN.{get_or}
-use borrow.Author.Tests.{eq-eqb, eqb-true, eqb-false}
+use lib.ListN.{length, get_or, replicate}
+use lib.Bits.{bit_and, and_mask}
+use lib.Lanes.{zip2, mask_l, top}
+use borrow.Author.Tests.{eq-eqb}
+use Rattle.std.specs.Int.RustNames.{count_ones}
+use Rattle.std.proofs.lemmas.List.{length-map}
+use Rattle.std.proofs.lemmas.Simd.{zip2_splat, map-map, ones-mask_l_cons}
 use Rattle.bits.specs.Bitop.{bit}
 use Rattle.lanes.specs.Lanes.{listed, flags, how_many}
 use Rattle.lanes.specs.Inner.Unpacked.{tally_of}
 use Rattle.lanes.proofs.Listed.{element}
-use Rattle.lanes.proofs.Packing.{flag_bit}
+use Rattle.lanes.proofs.Packing.{flag_bit, masked}
 
 pub many_same : (n : ℕ) (f g : ℕ → Bool) → ((i : ℕ) → i < n → f i ≡ g i) → how_many n f ≡ how_many n g
 unfolding how_many
@@ -47,20 +51,27 @@ pub tallied : (w : ℕ) → w % 2 ≡ 1 → (f : ℕ → Bool) {l : List ℕ} �
 unfolding tally_of
 tallied w h f {l} e = many_same 16 (λ i. eqb (get_or l i 0 % 2) 1) f (λ i u. rw (element _ e i u) (odd w h (f i)))
 
--- bytes that are odd, counted one by one
-abbrev pub odds : List ℕ → ℕ → Bool
-odds t i = eqb (get_or t i 0 % 2) 1
-
-added : (x : ℕ) → x % 2 ≡ cond (eqb (x % 2) 1) 1 0
-added x = go (eqb (x % 2) 1) refl
-  where
-    go : (t : Bool) → eqb (x % 2) 1 ≡ t → x % 2 ≡ cond t 1 0
-    go true e = eqb-true (x % 2) 1 e
-    go false e = let h = eqb-false (x % 2) 1 e in omega arith
-
-pub odds_more : (t : List ℕ) (i n : ℕ) → n ≡ how_many i (odds t) → n + get_or t i 0 % 2 ≡ how_many (i + 1) (odds t)
+-- from the low end
+many_low : (n : ℕ) (f : ℕ → Bool) → how_many (suc n) f ≡ cond (f 0) 1 0 + how_many n (λ i. f (suc i))
 unfolding how_many
-odds_more t i n e = rw (add-one i) (omega (arith, e, added (get_or t i 0)))
+many_low zero f = refl
+many_low (suc n) f = omega (arith, many_low n f)
+
+-- the ones of the mask of a test of each byte
+mask_ones : (p : ℕ → Bool) (l : List ℕ) → count_ones (mask_l (map p l)) ≡ how_many (length l) (λ i. p (get_or l i 0))
+unfolding how_many count_ones
+mask_ones p [] = refl
+mask_ones p (x ∷ xs) = rw (ones-mask_l_cons (p x) (map p xs), mask_ones p xs) (sym (many_low (length xs) (λ i. p (get_or (x ∷ xs) i 0))))
+
+pub odd_mask : (l : List ℕ) → length l ≡ 16
+    → count_ones (mask_l (map (top 7) (zip2 (λ a b. cond (eqb a b) 255 0) (zip2 bit_and l (replicate 16 1)) (replicate 16 1))) % 2 ^ 64) ≡ tally_of l
+unfolding tally_of
+odd_mask l e =
+    let p : ℕ → Bool = λ x. eqb (bit_and x 1) 1 in
+    let tests : zip2 eqb (zip2 bit_and l (replicate 16 1)) (replicate 16 1) ≡ map p l =
+    rw (zip2_splat bit_and l 16 1 e, zip2_splat eqb (map (λ x. bit_and x 1) l) 16 1 (omega (arith, e, length-map l (λ x. bit_and x 1)))) (map-map (λ x. eqb x 1) (λ x. bit_and x 1) l) in
+    rw (masked eqb p (zip2 bit_and l (replicate 16 1)) (replicate 16 1) l e tests, mask_ones p l, e)
+    (many_same 16 (λ i. p (get_or l i 0)) (λ i. eqb (get_or l i 0 % 2) 1) (λ i h. ap (λ (x : ℕ). eqb x 1) (and_mask (get_or l i 0) 1)))
 
 -- the bits that are set of packed flags
 digit : (t : Bool) → eqb (cond t 1 0) 1 ≡ t

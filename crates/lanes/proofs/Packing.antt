@@ -48,24 +48,24 @@ flags_low (suc n) f = pick (f (suc n)) (flags_low n f)
     pick true e = omega (arith, pow-suc 2 n)
     pick false e = omega arith
 
--- the mask of a test of each byte, and what two vectors' comparison makes of it
+-- the mask of a test of each byte
 mask_flags : (p : ℕ → Bool) (l : List ℕ) → mask_l (map p l) ≡ flags (length l) (λ i. p (get_or l i 0))
 unfolding flags
 mask_flags p [] = refl
 mask_flags p (x ∷ xs) = rw (flags_low (length xs) (λ i. p (get_or (x ∷ xs) i 0)), mask_flags p xs) (omega arith)
 
-pub compared : (t : ℕ → ℕ → Bool) (p : ℕ → Bool) (xs ys l : List ℕ) → length l ≡ 16 → zip2 t xs ys ≡ map p l
-    → mask_l (map (top 7) (zip2 (λ a b. cond (t a b) 255 0) xs ys)) % 2 ^ 64 ≡ flags 16 (λ i. p (get_or l i 0))
-compared t p xs ys l e h =
-    rw (tops_compared w8 t xs ys, h, mask_l-mod (map p l) 64 (omega (arith, e, length-map l p)), mask_flags p l, e) refl
+-- what `to_bitmask` makes of the comparison t of two vectors, where it is that test
+pub masked : (t : ℕ → ℕ → Bool) (p : ℕ → Bool) (xs ys l : List ℕ) → length l ≡ 16 → zip2 t xs ys ≡ map p l
+    → mask_l (map (top 7) (zip2 (λ a b. cond (t a b) 255 0) xs ys)) % 2 ^ 64 ≡ mask_l (map p l)
+masked t p xs ys l e h = rw (tops_compared w8 t xs ys, h) (mask_l-mod (map p l) 64 (omega (arith, e, length-map l p)))
 
 pub zero_mask : (l : List ℕ) → length l ≡ 16 → mask_l (map (top 7) (zip2 (λ a b. cond (eqb a b) 255 0) l (replicate 16 0))) % 2 ^ 64 ≡ zeros_of l
 unfolding zeros_of
-zero_mask l e = compared eqb (λ x. eqb x 0) l (replicate 16 0) l e (zip2_splat eqb l 16 0 e)
+zero_mask l e = rw (masked eqb (λ x. eqb x 0) l (replicate 16 0) l e (zip2_splat eqb l 16 0 e), mask_flags (λ x. eqb x 0) l, e)
 
 pub top_mask : (l : List ℕ) → length l ≡ 16 → mask_l (map (top 7) (zip2 (λ a b. cond (leb a b) 255 0) (replicate 16 0x80) l)) % 2 ^ 64 ≡ tops_of l
 unfolding tops_of
-top_mask l e = compared leb (leb 0x80) (replicate 16 0x80) l l e (zip2_splat_left leb 0x80 16 l e)
+top_mask l e = rw (masked leb (leb 0x80) (replicate 16 0x80) l l e (zip2_splat_left leb 0x80 16 l e), mask_flags (leb 0x80) l, e)
 
 pub digit : (t : Bool) → cond t 1 0 < 2
 digit true = omega arith
