@@ -1,7 +1,7 @@
 // What the vector unit's instructions share: where a second source and vcmpad's input bits come from, where a result and its flags go, and what it counts.
 #![tactic(auto)]
 
-ghost use Rattle.std.specs.Prelude.{◌≡◌, ◌<◌, length};
+ghost use Rattle.std.specs.Prelude.{◌≡◌, ◌<◌};
 ghost use Rattle.lanes.specs.Inner.Unpacked.{zeros_of, tops_of, packs};
 ghost use Rattle.pieces.specs.Inner.Regs.{flags_at};
 ghost use Rattle.words.specs.Fields as F;
@@ -13,8 +13,7 @@ use terms::Counted;
 
 // Source 2, as one value: BIMM in each component, or the register SRC2.
 #[tactic(auto, unfolding(crate::specs::Inner::Ports::second_of))]
-pub fn second_of(word: u32, v: &[u8]) -> [u8; 16]
-    requires { length v.now ≡ 512 }
+pub fn second_of(word: u32, v: &[u8; 512]) -> [u8; 16]
     ensures { result ≡ second_of (second_by word) v.now }
 {
     let f = words::cut(word);
@@ -26,8 +25,8 @@ pub fn second_of(word: u32, v: &[u8]) -> [u8; 16]
 }
 
 // The sixteen bits that vcmpad joins with its comparison: the side mask, where bit 16 says that it is valid, or the sign flags.
-pub fn input_of(vcdst: usize, mask: u32, vc: &[u32]) -> u16
-    requires { length vc.now ≡ 4 }
+#[tactic(auto, unfolding(crate::specs::Inner::Ports::input_of))]
+pub fn input_of(vcdst: usize, mask: u32, vc: &[u32; 4]) -> u16
     ensures { result ≡ input_of vcdst (F.input_of mask) vc.now }
 {
     if mask < 65536 {
@@ -38,8 +37,7 @@ pub fn input_of(vcdst: usize, mask: u32, vc: &[u32]) -> u16
 }
 
 // Flags to $vc[VCDST]; where there is no such register they are not packed at all.
-fn pack(tested: [u8; 16], tops: [u8; 16], vcdst: usize, vc: &mut [u32])
-    requires { length vc.old ≡ 4 }
+fn pack(tested: [u8; 16], tops: [u8; 16], vcdst: usize, vc: &mut [u32; 4])
     ensures { vc.new ≡ flags_at vcdst (tops_of tops) (zeros_of tested) vc.old }
 {
     if vcdst < 4 {
@@ -48,20 +46,17 @@ fn pack(tested: [u8; 16], tops: [u8; 16], vcdst: usize, vc: &mut [u32])
 }
 
 // A result to $v[DST], its flags to $vc[VCDST].
-fn write(m: Unpacked, dst: usize, vcdst: usize, vc: &mut [u32], v: &mut [u8])
-    requires { (length vc.old ≡ 4) × (length v.old ≡ 512) × (dst < 32) }
+fn write(m: Unpacked, dst: usize, vcdst: usize, vc: &mut [u32; 4], v: &mut [u8; 512])
+    requires { dst < 32 }
     ensures { vectors vc.new v.new ≡ lanes_at dst vcdst (packs m) (vectors vc.old v.old) }
 {
-    let bytes = m.bytes;
-    let tested = m.tested;
-    let tops = m.tops;
-    pieces::set_vreg(v, dst, bytes);
-    pack(tested, tops, vcdst, vc);
+    pieces::set_vreg(v, dst, m.bytes);
+    pack(m.tested, m.tops, vcdst, vc);
 }
 
 // The result of an instruction that counts nothing.
-pub fn put(m: Unpacked, dst: usize, vcdst: usize, vc: &mut [u32], v: &mut [u8]) -> Counted
-    requires { (length vc.old ≡ 4) × (length v.old ≡ 512) × (dst < 32) }
+pub fn put(m: Unpacked, dst: usize, vcdst: usize, vc: &mut [u32; 4], v: &mut [u8; 512]) -> Counted
+    requires { dst < 32 }
     ensures { result_from result (vectors vc.new v.new) ≡ result_from Counted.Nothing (lanes_at dst vcdst (packs m) (vectors vc.old v.old)) }
 {
     write(m, dst, vcdst, vc, v);
@@ -69,11 +64,16 @@ pub fn put(m: Unpacked, dst: usize, vcdst: usize, vc: &mut [u32], v: &mut [u8]) 
 }
 
 // The result of one that counts the components that were clipped.
-pub fn put_clipped(m: Unpacked, dst: usize, vcdst: usize, vc: &mut [u32], v: &mut [u8]) -> Counted
-    requires { (length vc.old ≡ 4) × (length v.old ≡ 512) × (dst < 32) }
+pub fn put_clipped(
+    m: Unpacked,
+    dst: usize,
+    vcdst: usize,
+    vc: &mut [u32; 4],
+    v: &mut [u8; 512],
+) -> Counted
+    requires { dst < 32 }
     ensures { result_from result (vectors vc.new v.new) ≡ result_from (Counted.Clipped (packs m).clipped) (lanes_at dst vcdst (packs m) (vectors vc.old v.old)) }
 {
-    let clipped = m.clipped;
     write(m, dst, vcdst, vc, v);
-    Counted::Clipped(clipped as u64)
+    Counted::Clipped(u64::from(m.clipped))
 }

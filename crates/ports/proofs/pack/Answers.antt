@@ -1,6 +1,5 @@
 -- `ports::pack` meets its contract.
-use Rattle.std.proofs.Common.{◌≡◌, ◌%◌, refl, arith}
-use borrow.Author.Tests.{lt-ltb, le-ltb}
+use Rattle.std.proofs.Common.{◌≡◌, ◌%◌, arith, rules}
 use Rattle.lanes.specs.Inner.Unpacked.{tops_of}
 use Rattle.lanes.proofs.Packing.{tops_lt}
 use Rattle.pieces.specs.Inner.Regs.{flags_at}
@@ -11,8 +10,8 @@ unfolding flags_at
 returns-then-vcdst-lt4 c =
     let t = c.args.tops in
     let e : tops_of t % 65536 ≡ tops_of t = omega (arith, tops_lt t) in
-    rw (lt-ltb c.args.vcdst 4 c.if-vcdst-lt4.true, c.flags.ensures, e) refl
+    search rules
 
 pub returns-else-vcdst-lt4 : goal.returns-else-vcdst-lt4
 unfolding flags_at
-returns-else-vcdst-lt4 c = rw (le-ltb c.args.vcdst 4 c.if-vcdst-lt4.false) refl
+returns-else-vcdst-lt4 c = search rules
