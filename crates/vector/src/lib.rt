@@ -1,6 +1,6 @@
 // The vector unit's instructions, on the two pieces that it changes: sources are read into values first, then the result is written.
 // Each takes the word, so that only the fields that it uses are cut from it, and hands back what it counts.
-#![tactic(auto)]
+#![tactic(auto, using(lanes::proofs::Unpacking::arith_packs, lanes::proofs::Unpacking::shift_packs, lanes::proofs::Unpacking::clip_packs, lanes::proofs::Unpacking::add9_packs, lanes::proofs::Unpacking::min_abs_packs, lanes::proofs::Unpacking::bitop_packs, lanes::proofs::Unpacking::logic_packs, lanes::proofs::Unpacking::mov_packs, lanes::proofs::Unpacking::mov_imm_packs), unfolding(crate::specs::Inner::Effect::result_of, crate::specs::Inner::Effect::counted_of, crate::specs::Inner::Effect::vectored, ports::specs::Inner::Ports::second_of))]
 
 ghost use Rattle.std.specs.Prelude.{◌≡◌, true, false, [], ◌<◌, length};
 ghost use Rattle.lane.specs.declared.Calc.TheVariants.{Min, Max, Abs, Neg, Add, Sub};
@@ -9,169 +9,191 @@ ghost use Rattle.words.specs.Fields.{fields_of};
 ghost use Rattle.words.specs.Inner.Meant.{second_by};
 ghost use Rattle.words.specs.Table.{arith_of, shift_of, clip_of, add9_of, min_abs_of, vbitop_of, logic_of, cmpad_of, swz_of, mov_of, mov_imm_of, mov_flags_of};
 ghost use Rattle.words.specs.Second.{Register, Absent};
-ghost use Rattle.ports.specs.Inner.Ports.{vectors, result_from};
+ghost use Rattle.lanes.specs.Inner.Unpacked.{packs};
+ghost use Rattle.pieces.specs.Inner.Regs.{vreg_of};
+ghost use Rattle.ports.specs.Inner.Ports.{vectors, second_of, lanes_at, result_from};
 ghost use Rattle.vector.specs.Inner.Effect.{vectored, result_of};
 
+use lanes::Unpacked;
 use terms::Counted;
 use words::Fields;
+
+// An operation of the register SRC1.
+fn one<F: FnOnce([u8; 16]) -> Unpacked>(op: F, word: u32, v: &[u8]) -> Unpacked
+    requires fits { length v.now ≡ 512 }
+    requires calls { F.IsAlwaysCallable op }
+    ensures { F.post op (vreg_of v.now (fields_of word).src1) result }
+{
+    op(pieces::vreg(v, words::cut(word).src1))
+}
+
+// An operation of two sources, of which the second is a register or BIMM by the opcode.
+fn with_second<F: FnOnce([u8; 16], [u8; 16]) -> Unpacked>(op: F, word: u32, v: &[u8]) -> Unpacked
+    requires fits { length v.now ≡ 512 }
+    requires calls { F.IsAlwaysCallable op }
+    ensures { F.post op (vreg_of v.now (fields_of word).src1) (second_of (second_by word) v.now) result }
+{
+    op(pieces::vreg(v, words::cut(word).src1), ports::second_of(word, v))
+}
+
+// An operation of the registers SRC1 and SRC2.
+fn two<F: FnOnce([u8; 16], [u8; 16]) -> Unpacked>(op: F, word: u32, v: &[u8]) -> Unpacked
+    requires fits { length v.now ≡ 512 }
+    requires calls { F.IsAlwaysCallable op }
+    ensures { F.post op (vreg_of v.now (fields_of word).src1) (vreg_of v.now (fields_of word).src2) result }
+{
+    let f = words::cut(word);
+    op(pieces::vreg(v, f.src1), pieces::vreg(v, f.src2))
+}
+
+// An operation of the registers SRC1, SRC2 and SRC3.
+fn three<F: FnOnce([u8; 16], [u8; 16], [u8; 16]) -> Unpacked>(op: F, word: u32, v: &[u8]) -> Unpacked
+    requires fits { length v.now ≡ 512 }
+    requires calls { F.IsAlwaysCallable op }
+    ensures { F.post op (vreg_of v.now (fields_of word).src1) (vreg_of v.now (fields_of word).src2) (vreg_of v.now (fields_of word).src3) result }
+{
+    let f = words::cut(word);
+    op(pieces::vreg(v, f.src1), pieces::vreg(v, f.src2), pieces::vreg(v, f.src3))
+}
+
+// An operation of the register SRC1 and of BIMM.
+fn with_byte<F: FnOnce([u8; 16], u8) -> Unpacked>(op: F, word: u32, v: &[u8]) -> Unpacked
+    requires fits { length v.now ≡ 512 }
+    requires calls { F.IsAlwaysCallable op }
+    ensures { F.post op (vreg_of v.now (fields_of word).src1) (fields_of word).byte result }
+{
+    let f = words::cut(word);
+    op(pieces::vreg(v, f.src1), f.byte)
+}
+
+// The result of an instruction that counts nothing.
+fn silent(m: Unpacked, word: u32, vc: &mut [u32], v: &mut [u8]) -> Counted
+    requires { (length vc.old ≡ 4) × (length v.old ≡ 512) }
+    ensures { result_from result (vectors vc.new v.new) ≡ result_from Counted.Nothing (lanes_at (fields_of word).dst (fields_of word).flags (packs m) (vectors vc.old v.old)) }
+{
+    let f = words::cut(word);
+    ports::put(m, f.dst, f.flags, vc, v)
+}
+
+// The result of one that counts the components that were clipped.
+fn told(m: Unpacked, word: u32, vc: &mut [u32], v: &mut [u8]) -> Counted
+    requires { (length vc.old ≡ 4) × (length v.old ≡ 512) }
+    ensures { result_from result (vectors vc.new v.new) ≡ result_from (Counted.Clipped (packs m).clipped) (lanes_at (fields_of word).dst (fields_of word).flags (packs m) (vectors vc.old v.old)) }
+{
+    let f = words::cut(word);
+    ports::put_clipped(m, f.dst, f.flags, vc, v)
+}
 
 pub fn vmin_s(word: u32, vc: &mut [u32], v: &mut [u8]) -> Counted
     requires { (length vc.old ≡ 4) × (length v.old ≡ 512) }
     ensures { result_from result (vectors vc.new v.new) ≡ result_of (arith_of (fields_of word) Min true (second_by word)) (vectors vc.old v.old) }
 {
-    let f = words::cut(word);
-    let a = pieces::vreg(v, f.src1);
-    let b = ports::second_of(word, v);
-    ports::put(loops::arithmetic::vmin_s(a, b), f.dst, f.flags, vc, v)
+    silent(with_second(loops::arithmetic::vmin_s, word, v), word, vc, v)
 }
 
 pub fn vmax_s(word: u32, vc: &mut [u32], v: &mut [u8]) -> Counted
     requires { (length vc.old ≡ 4) × (length v.old ≡ 512) }
     ensures { result_from result (vectors vc.new v.new) ≡ result_of (arith_of (fields_of word) Max true (second_by word)) (vectors vc.old v.old) }
 {
-    let f = words::cut(word);
-    let a = pieces::vreg(v, f.src1);
-    let b = ports::second_of(word, v);
-    ports::put(loops::arithmetic::vmax_s(a, b), f.dst, f.flags, vc, v)
+    silent(with_second(loops::arithmetic::vmax_s, word, v), word, vc, v)
 }
 
 pub fn vadd_s(word: u32, vc: &mut [u32], v: &mut [u8]) -> Counted
     requires { (length vc.old ≡ 4) × (length v.old ≡ 512) }
     ensures { result_from result (vectors vc.new v.new) ≡ result_of (arith_of (fields_of word) Add true (second_by word)) (vectors vc.old v.old) }
 {
-    let f = words::cut(word);
-    let a = pieces::vreg(v, f.src1);
-    let b = ports::second_of(word, v);
-    ports::put_clipped(loops::arithmetic::vadd_s(a, b), f.dst, f.flags, vc, v)
+    told(with_second(loops::arithmetic::vadd_s, word, v), word, vc, v)
 }
 
 pub fn vsub_s(word: u32, vc: &mut [u32], v: &mut [u8]) -> Counted
     requires { (length vc.old ≡ 4) × (length v.old ≡ 512) }
     ensures { result_from result (vectors vc.new v.new) ≡ result_of (arith_of (fields_of word) Sub true (Register (fields_of word).src2)) (vectors vc.old v.old) }
 {
-    let f = words::cut(word);
-    let a = pieces::vreg(v, f.src1);
-    let b = pieces::vreg(v, f.src2);
-    ports::put_clipped(loops::arithmetic::vsub_s(a, b), f.dst, f.flags, vc, v)
+    told(two(loops::arithmetic::vsub_s, word, v), word, vc, v)
 }
 
 pub fn vmin_u(word: u32, vc: &mut [u32], v: &mut [u8]) -> Counted
     requires { (length vc.old ≡ 4) × (length v.old ≡ 512) }
     ensures { result_from result (vectors vc.new v.new) ≡ result_of (arith_of (fields_of word) Min false (second_by word)) (vectors vc.old v.old) }
 {
-    let f = words::cut(word);
-    let a = pieces::vreg(v, f.src1);
-    let b = ports::second_of(word, v);
-    ports::put(loops::arithmetic::vmin_u(a, b), f.dst, f.flags, vc, v)
+    silent(with_second(loops::arithmetic::vmin_u, word, v), word, vc, v)
 }
 
 pub fn vmax_u(word: u32, vc: &mut [u32], v: &mut [u8]) -> Counted
     requires { (length vc.old ≡ 4) × (length v.old ≡ 512) }
     ensures { result_from result (vectors vc.new v.new) ≡ result_of (arith_of (fields_of word) Max false (second_by word)) (vectors vc.old v.old) }
 {
-    let f = words::cut(word);
-    let a = pieces::vreg(v, f.src1);
-    let b = ports::second_of(word, v);
-    ports::put(loops::arithmetic::vmax_u(a, b), f.dst, f.flags, vc, v)
+    silent(with_second(loops::arithmetic::vmax_u, word, v), word, vc, v)
 }
 
 pub fn vadd_u(word: u32, vc: &mut [u32], v: &mut [u8]) -> Counted
     requires { (length vc.old ≡ 4) × (length v.old ≡ 512) }
     ensures { result_from result (vectors vc.new v.new) ≡ result_of (arith_of (fields_of word) Add false (second_by word)) (vectors vc.old v.old) }
 {
-    let f = words::cut(word);
-    let a = pieces::vreg(v, f.src1);
-    let b = ports::second_of(word, v);
-    ports::put_clipped(loops::arithmetic::vadd_u(a, b), f.dst, f.flags, vc, v)
+    told(with_second(loops::arithmetic::vadd_u, word, v), word, vc, v)
 }
 
 pub fn vsub_u(word: u32, vc: &mut [u32], v: &mut [u8]) -> Counted
     requires { (length vc.old ≡ 4) × (length v.old ≡ 512) }
     ensures { result_from result (vectors vc.new v.new) ≡ result_of (arith_of (fields_of word) Sub false (second_by word)) (vectors vc.old v.old) }
 {
-    let f = words::cut(word);
-    let a = pieces::vreg(v, f.src1);
-    let b = ports::second_of(word, v);
-    ports::put_clipped(loops::arithmetic::vsub_u(a, b), f.dst, f.flags, vc, v)
+    told(with_second(loops::arithmetic::vsub_u, word, v), word, vc, v)
 }
 
 pub fn vabs_s(word: u32, vc: &mut [u32], v: &mut [u8]) -> Counted
     requires { (length vc.old ≡ 4) × (length v.old ≡ 512) }
     ensures { result_from result (vectors vc.new v.new) ≡ result_of (arith_of (fields_of word) Abs true Absent) (vectors vc.old v.old) }
 {
-    let f = words::cut(word);
-    let a = pieces::vreg(v, f.src1);
-    ports::put_clipped(loops::arithmetic::vabs_s(a), f.dst, f.flags, vc, v)
+    told(one(loops::arithmetic::vabs_s, word, v), word, vc, v)
 }
 
 pub fn vneg_s(word: u32, vc: &mut [u32], v: &mut [u8]) -> Counted
     requires { (length vc.old ≡ 4) × (length v.old ≡ 512) }
     ensures { result_from result (vectors vc.new v.new) ≡ result_of (arith_of (fields_of word) Neg true Absent) (vectors vc.old v.old) }
 {
-    let f = words::cut(word);
-    let a = pieces::vreg(v, f.src1);
-    ports::put_clipped(loops::arithmetic::vneg_s(a), f.dst, f.flags, vc, v)
+    told(one(loops::arithmetic::vneg_s, word, v), word, vc, v)
 }
 
 pub fn vabs_u(word: u32, vc: &mut [u32], v: &mut [u8]) -> Counted
     requires { (length vc.old ≡ 4) × (length v.old ≡ 512) }
     ensures { result_from result (vectors vc.new v.new) ≡ result_of (arith_of (fields_of word) Abs false Absent) (vectors vc.old v.old) }
 {
-    let f = words::cut(word);
-    let a = pieces::vreg(v, f.src1);
-    ports::put_clipped(loops::arithmetic::vabs_u(a), f.dst, f.flags, vc, v)
+    told(one(loops::arithmetic::vabs_u, word, v), word, vc, v)
 }
 
 pub fn vsar(word: u32, vc: &mut [u32], v: &mut [u8]) -> Counted
     requires { (length vc.old ≡ 4) × (length v.old ≡ 512) }
     ensures { result_from result (vectors vc.new v.new) ≡ result_of (shift_of (fields_of word) true (second_by word)) (vectors vc.old v.old) }
 {
-    let f = words::cut(word);
-    let a = pieces::vreg(v, f.src1);
-    let b = ports::second_of(word, v);
-    ports::put(loops::shifts::vsar(a, b), f.dst, f.flags, vc, v)
+    silent(with_second(loops::shifts::vsar, word, v), word, vc, v)
 }
 
 pub fn vshr(word: u32, vc: &mut [u32], v: &mut [u8]) -> Counted
     requires { (length vc.old ≡ 4) × (length v.old ≡ 512) }
     ensures { result_from result (vectors vc.new v.new) ≡ result_of (shift_of (fields_of word) false (second_by word)) (vectors vc.old v.old) }
 {
-    let f = words::cut(word);
-    let a = pieces::vreg(v, f.src1);
-    let b = ports::second_of(word, v);
-    ports::put(loops::shifts::vshr(a, b), f.dst, f.flags, vc, v)
+    silent(with_second(loops::shifts::vshr, word, v), word, vc, v)
 }
 
 pub fn vclip(word: u32, vc: &mut [u32], v: &mut [u8]) -> Counted
     requires { (length vc.old ≡ 4) × (length v.old ≡ 512) }
     ensures { result_from result (vectors vc.new v.new) ≡ result_of (clip_of (fields_of word)) (vectors vc.old v.old) }
 {
-    let f = words::cut(word);
-    let a = pieces::vreg(v, f.src1);
-    let b = pieces::vreg(v, f.src2);
-    let c = pieces::vreg(v, f.src3);
-    ports::put(loops::clamp::vclip(a, b, c), f.dst, f.flags, vc, v)
+    silent(three(loops::clamp::vclip, word, v), word, vc, v)
 }
 
 pub fn vadd9(word: u32, vc: &mut [u32], v: &mut [u8]) -> Counted
     requires { (length vc.old ≡ 4) × (length v.old ≡ 512) }
     ensures { result_from result (vectors vc.new v.new) ≡ result_of (add9_of (fields_of word)) (vectors vc.old v.old) }
 {
-    let f = words::cut(word);
-    let a = pieces::vreg(v, f.src1);
-    let b = pieces::vreg(v, f.src2);
-    let c = pieces::vreg(v, f.src3);
-    ports::put_clipped(loops::nine::vadd9(a, b, c), f.dst, f.flags, vc, v)
+    told(three(loops::nine::vadd9, word, v), word, vc, v)
 }
 
 pub fn vminabs(word: u32, vc: &mut [u32], v: &mut [u8]) -> Counted
     requires { (length vc.old ≡ 4) × (length v.old ≡ 512) }
     ensures { result_from result (vectors vc.new v.new) ≡ result_of (min_abs_of (fields_of word)) (vectors vc.old v.old) }
 {
-    let f = words::cut(word);
-    let a = pieces::vreg(v, f.src1);
-    let b = pieces::vreg(v, f.src2);
-    ports::put(loops::clamp::vminabs(a, b), f.dst, f.flags, vc, v)
+    silent(two(loops::clamp::vminabs, word, v), word, vc, v)
 }
 
 pub fn vbitop(word: u32, vc: &mut [u32], v: &mut [u8]) -> Counted
@@ -179,53 +201,42 @@ pub fn vbitop(word: u32, vc: &mut [u32], v: &mut [u8]) -> Counted
     ensures { result_from result (vectors vc.new v.new) ≡ result_of (vbitop_of (fields_of word)) (vectors vc.old v.old) }
 {
     let f = words::cut(word);
-    let a = pieces::vreg(v, f.src1);
-    let b = pieces::vreg(v, f.src2);
-    ports::put(loops::bitwise::vbitop(f.bitop, a, b), f.dst, f.flags, vc, v)
+    silent(loops::bitwise::vbitop(f.bitop, pieces::vreg(v, f.src1), pieces::vreg(v, f.src2)), word, vc, v)
 }
 
 pub fn vand(word: u32, vc: &mut [u32], v: &mut [u8]) -> Counted
     requires { (length vc.old ≡ 4) × (length v.old ≡ 512) }
     ensures { result_from result (vectors vc.new v.new) ≡ result_of (logic_of (fields_of word) And) (vectors vc.old v.old) }
 {
-    let f = words::cut(word);
-    let a = pieces::vreg(v, f.src1);
-    ports::put(loops::bitwise::vand(a, f.byte), f.dst, f.flags, vc, v)
+    silent(with_byte(loops::bitwise::vand, word, v), word, vc, v)
 }
 
 pub fn vxor(word: u32, vc: &mut [u32], v: &mut [u8]) -> Counted
     requires { (length vc.old ≡ 4) × (length v.old ≡ 512) }
     ensures { result_from result (vectors vc.new v.new) ≡ result_of (logic_of (fields_of word) Xor) (vectors vc.old v.old) }
 {
-    let f = words::cut(word);
-    let a = pieces::vreg(v, f.src1);
-    ports::put(loops::bitwise::vxor(a, f.byte), f.dst, f.flags, vc, v)
+    silent(with_byte(loops::bitwise::vxor, word, v), word, vc, v)
 }
 
 pub fn vor(word: u32, vc: &mut [u32], v: &mut [u8]) -> Counted
     requires { (length vc.old ≡ 4) × (length v.old ≡ 512) }
     ensures { result_from result (vectors vc.new v.new) ≡ result_of (logic_of (fields_of word) Or) (vectors vc.old v.old) }
 {
-    let f = words::cut(word);
-    let a = pieces::vreg(v, f.src1);
-    ports::put(loops::bitwise::vor(a, f.byte), f.dst, f.flags, vc, v)
+    silent(with_byte(loops::bitwise::vor, word, v), word, vc, v)
 }
 
 pub fn mov(word: u32, vc: &mut [u32], v: &mut [u8]) -> Counted
     requires { (length vc.old ≡ 4) × (length v.old ≡ 512) }
     ensures { result_from result (vectors vc.new v.new) ≡ result_of (mov_of (fields_of word)) (vectors vc.old v.old) }
 {
-    let f = words::cut(word);
-    let a = pieces::vreg(v, f.src1);
-    ports::put(lanes::moves::mov(a), f.dst, f.flags, vc, v)
+    silent(one(lanes::moves::mov, word, v), word, vc, v)
 }
 
 pub fn vmov(word: u32, vc: &mut [u32], v: &mut [u8]) -> Counted
     requires { (length vc.old ≡ 4) × (length v.old ≡ 512) }
     ensures { result_from result (vectors vc.new v.new) ≡ result_of (mov_imm_of (fields_of word)) (vectors vc.old v.old) }
 {
-    let f = words::cut(word);
-    ports::put(lanes::moves::vmov(f.byte), f.dst, f.flags, vc, v)
+    silent(lanes::moves::vmov(words::cut(word).byte), word, vc, v)
 }
 
 pub fn mov_vc(word: u32, vc: &[u32], v: &mut [u8]) -> Counted
