@@ -1,6 +1,6 @@
 // The vector unit's instructions, on the two pieces that it changes: sources are read into values first, then the result is written.
 // Each takes the word, so that only the fields that it uses are cut from it, and hands back what it counts.
-#![tactic(auto, using(lanes::proofs::Unpacking::arith_packs, lanes::proofs::Unpacking::shift_packs, lanes::proofs::Unpacking::clip_packs, lanes::proofs::Unpacking::add9_packs, lanes::proofs::Unpacking::min_abs_packs, lanes::proofs::Unpacking::bitop_packs, lanes::proofs::Unpacking::logic_packs, lanes::proofs::Unpacking::mov_packs, lanes::proofs::Unpacking::mov_imm_packs), unfolding(crate::specs::Inner::Effect::result_of, crate::specs::Inner::Effect::counted_of, crate::specs::Inner::Effect::vectored, ports::specs::Inner::Ports::second_of))]
+#![tactic(auto, using(crate::proofs::Packs::packings), unfolding(crate::specs::Inner::Effect::result_of, crate::specs::Inner::Effect::counted_of, crate::specs::Inner::Effect::vectored, ports::specs::Inner::Ports::second_of))]
 
 ghost use Rattle.std.specs.Prelude.{◌≡◌, true, false, [], ◌<◌, length};
 ghost use Rattle.lane.specs.declared.Calc.TheVariants.{Min, Max, Abs, Neg, Add, Sub};
@@ -16,30 +16,26 @@ ghost use Rattle.vector.specs.Inner.Effect.{vectored, result_of};
 
 use lanes::Unpacked;
 use terms::Counted;
-use words::Fields;
 
 // An operation of the register SRC1.
-fn one<F: FnOnce([u8; 16]) -> Unpacked>(op: F, word: u32, v: &[u8]) -> Unpacked
-    requires fits { length v.now ≡ 512 }
-    requires calls { F.IsAlwaysCallable op }
+fn one<F: FnOnce([u8; 16]) -> Unpacked>(op: F, word: u32, v: &[u8; 512]) -> Unpacked
+    requires { F.IsAlwaysCallable op }
     ensures { F.post op (vreg_of v.now (fields_of word).src1) result }
 {
     op(pieces::vreg(v, words::cut(word).src1))
 }
 
 // An operation of two sources, of which the second is a register or BIMM by the opcode.
-fn with_second<F: FnOnce([u8; 16], [u8; 16]) -> Unpacked>(op: F, word: u32, v: &[u8]) -> Unpacked
-    requires fits { length v.now ≡ 512 }
-    requires calls { F.IsAlwaysCallable op }
+fn with_second<F: FnOnce([u8; 16], [u8; 16]) -> Unpacked>(op: F, word: u32, v: &[u8; 512]) -> Unpacked
+    requires { F.IsAlwaysCallable op }
     ensures { F.post op (vreg_of v.now (fields_of word).src1) (second_of (second_by word) v.now) result }
 {
     op(pieces::vreg(v, words::cut(word).src1), ports::second_of(word, v))
 }
 
 // An operation of the registers SRC1 and SRC2.
-fn two<F: FnOnce([u8; 16], [u8; 16]) -> Unpacked>(op: F, word: u32, v: &[u8]) -> Unpacked
-    requires fits { length v.now ≡ 512 }
-    requires calls { F.IsAlwaysCallable op }
+fn two<F: FnOnce([u8; 16], [u8; 16]) -> Unpacked>(op: F, word: u32, v: &[u8; 512]) -> Unpacked
+    requires { F.IsAlwaysCallable op }
     ensures { F.post op (vreg_of v.now (fields_of word).src1) (vreg_of v.now (fields_of word).src2) result }
 {
     let f = words::cut(word);
@@ -47,9 +43,8 @@ fn two<F: FnOnce([u8; 16], [u8; 16]) -> Unpacked>(op: F, word: u32, v: &[u8]) ->
 }
 
 // An operation of the registers SRC1, SRC2 and SRC3.
-fn three<F: FnOnce([u8; 16], [u8; 16], [u8; 16]) -> Unpacked>(op: F, word: u32, v: &[u8]) -> Unpacked
-    requires fits { length v.now ≡ 512 }
-    requires calls { F.IsAlwaysCallable op }
+fn three<F: FnOnce([u8; 16], [u8; 16], [u8; 16]) -> Unpacked>(op: F, word: u32, v: &[u8; 512]) -> Unpacked
+    requires { F.IsAlwaysCallable op }
     ensures { F.post op (vreg_of v.now (fields_of word).src1) (vreg_of v.now (fields_of word).src2) (vreg_of v.now (fields_of word).src3) result }
 {
     let f = words::cut(word);
@@ -57,9 +52,8 @@ fn three<F: FnOnce([u8; 16], [u8; 16], [u8; 16]) -> Unpacked>(op: F, word: u32, 
 }
 
 // An operation of the register SRC1 and of BIMM.
-fn with_byte<F: FnOnce([u8; 16], u8) -> Unpacked>(op: F, word: u32, v: &[u8]) -> Unpacked
-    requires fits { length v.now ≡ 512 }
-    requires calls { F.IsAlwaysCallable op }
+fn with_byte<F: FnOnce([u8; 16], u8) -> Unpacked>(op: F, word: u32, v: &[u8; 512]) -> Unpacked
+    requires { F.IsAlwaysCallable op }
     ensures { F.post op (vreg_of v.now (fields_of word).src1) (fields_of word).byte result }
 {
     let f = words::cut(word);
@@ -67,8 +61,7 @@ fn with_byte<F: FnOnce([u8; 16], u8) -> Unpacked>(op: F, word: u32, v: &[u8]) ->
 }
 
 // The result of an instruction that counts nothing.
-fn silent(m: Unpacked, word: u32, vc: &mut [u32], v: &mut [u8]) -> Counted
-    requires { (length vc.old ≡ 4) × (length v.old ≡ 512) }
+fn put(m: Unpacked, word: u32, vc: &mut [u32; 4], v: &mut [u8; 512]) -> Counted
     ensures { result_from result (vectors vc.new v.new) ≡ result_from Counted.Nothing (lanes_at (fields_of word).dst (fields_of word).flags (packs m) (vectors vc.old v.old)) }
 {
     let f = words::cut(word);
@@ -76,171 +69,147 @@ fn silent(m: Unpacked, word: u32, vc: &mut [u32], v: &mut [u8]) -> Counted
 }
 
 // The result of one that counts the components that were clipped.
-fn told(m: Unpacked, word: u32, vc: &mut [u32], v: &mut [u8]) -> Counted
-    requires { (length vc.old ≡ 4) × (length v.old ≡ 512) }
+fn put_clipped(m: Unpacked, word: u32, vc: &mut [u32; 4], v: &mut [u8; 512]) -> Counted
     ensures { result_from result (vectors vc.new v.new) ≡ result_from (Counted.Clipped (packs m).clipped) (lanes_at (fields_of word).dst (fields_of word).flags (packs m) (vectors vc.old v.old)) }
 {
     let f = words::cut(word);
     ports::put_clipped(m, f.dst, f.flags, vc, v)
 }
 
-pub fn vmin_s(word: u32, vc: &mut [u32], v: &mut [u8]) -> Counted
-    requires { (length vc.old ≡ 4) × (length v.old ≡ 512) }
+pub fn vmin_s(word: u32, vc: &mut [u32; 4], v: &mut [u8; 512]) -> Counted
     ensures { result_from result (vectors vc.new v.new) ≡ result_of (arith_of (fields_of word) Min true (second_by word)) (vectors vc.old v.old) }
 {
-    silent(with_second(loops::arithmetic::vmin_s, word, v), word, vc, v)
+    put(with_second(loops::arithmetic::vmin_s, word, v), word, vc, v)
 }
 
-pub fn vmax_s(word: u32, vc: &mut [u32], v: &mut [u8]) -> Counted
-    requires { (length vc.old ≡ 4) × (length v.old ≡ 512) }
+pub fn vmax_s(word: u32, vc: &mut [u32; 4], v: &mut [u8; 512]) -> Counted
     ensures { result_from result (vectors vc.new v.new) ≡ result_of (arith_of (fields_of word) Max true (second_by word)) (vectors vc.old v.old) }
 {
-    silent(with_second(loops::arithmetic::vmax_s, word, v), word, vc, v)
+    put(with_second(loops::arithmetic::vmax_s, word, v), word, vc, v)
 }
 
-pub fn vadd_s(word: u32, vc: &mut [u32], v: &mut [u8]) -> Counted
-    requires { (length vc.old ≡ 4) × (length v.old ≡ 512) }
+pub fn vadd_s(word: u32, vc: &mut [u32; 4], v: &mut [u8; 512]) -> Counted
     ensures { result_from result (vectors vc.new v.new) ≡ result_of (arith_of (fields_of word) Add true (second_by word)) (vectors vc.old v.old) }
 {
-    told(with_second(loops::arithmetic::vadd_s, word, v), word, vc, v)
+    put_clipped(with_second(loops::arithmetic::vadd_s, word, v), word, vc, v)
 }
 
-pub fn vsub_s(word: u32, vc: &mut [u32], v: &mut [u8]) -> Counted
-    requires { (length vc.old ≡ 4) × (length v.old ≡ 512) }
+pub fn vsub_s(word: u32, vc: &mut [u32; 4], v: &mut [u8; 512]) -> Counted
     ensures { result_from result (vectors vc.new v.new) ≡ result_of (arith_of (fields_of word) Sub true (Register (fields_of word).src2)) (vectors vc.old v.old) }
 {
-    told(two(loops::arithmetic::vsub_s, word, v), word, vc, v)
+    put_clipped(two(loops::arithmetic::vsub_s, word, v), word, vc, v)
 }
 
-pub fn vmin_u(word: u32, vc: &mut [u32], v: &mut [u8]) -> Counted
-    requires { (length vc.old ≡ 4) × (length v.old ≡ 512) }
+pub fn vmin_u(word: u32, vc: &mut [u32; 4], v: &mut [u8; 512]) -> Counted
     ensures { result_from result (vectors vc.new v.new) ≡ result_of (arith_of (fields_of word) Min false (second_by word)) (vectors vc.old v.old) }
 {
-    silent(with_second(loops::arithmetic::vmin_u, word, v), word, vc, v)
+    put(with_second(loops::arithmetic::vmin_u, word, v), word, vc, v)
 }
 
-pub fn vmax_u(word: u32, vc: &mut [u32], v: &mut [u8]) -> Counted
-    requires { (length vc.old ≡ 4) × (length v.old ≡ 512) }
+pub fn vmax_u(word: u32, vc: &mut [u32; 4], v: &mut [u8; 512]) -> Counted
     ensures { result_from result (vectors vc.new v.new) ≡ result_of (arith_of (fields_of word) Max false (second_by word)) (vectors vc.old v.old) }
 {
-    silent(with_second(loops::arithmetic::vmax_u, word, v), word, vc, v)
+    put(with_second(loops::arithmetic::vmax_u, word, v), word, vc, v)
 }
 
-pub fn vadd_u(word: u32, vc: &mut [u32], v: &mut [u8]) -> Counted
-    requires { (length vc.old ≡ 4) × (length v.old ≡ 512) }
+pub fn vadd_u(word: u32, vc: &mut [u32; 4], v: &mut [u8; 512]) -> Counted
     ensures { result_from result (vectors vc.new v.new) ≡ result_of (arith_of (fields_of word) Add false (second_by word)) (vectors vc.old v.old) }
 {
-    told(with_second(loops::arithmetic::vadd_u, word, v), word, vc, v)
+    put_clipped(with_second(loops::arithmetic::vadd_u, word, v), word, vc, v)
 }
 
-pub fn vsub_u(word: u32, vc: &mut [u32], v: &mut [u8]) -> Counted
-    requires { (length vc.old ≡ 4) × (length v.old ≡ 512) }
+pub fn vsub_u(word: u32, vc: &mut [u32; 4], v: &mut [u8; 512]) -> Counted
     ensures { result_from result (vectors vc.new v.new) ≡ result_of (arith_of (fields_of word) Sub false (second_by word)) (vectors vc.old v.old) }
 {
-    told(with_second(loops::arithmetic::vsub_u, word, v), word, vc, v)
+    put_clipped(with_second(loops::arithmetic::vsub_u, word, v), word, vc, v)
 }
 
-pub fn vabs_s(word: u32, vc: &mut [u32], v: &mut [u8]) -> Counted
-    requires { (length vc.old ≡ 4) × (length v.old ≡ 512) }
+pub fn vabs_s(word: u32, vc: &mut [u32; 4], v: &mut [u8; 512]) -> Counted
     ensures { result_from result (vectors vc.new v.new) ≡ result_of (arith_of (fields_of word) Abs true Absent) (vectors vc.old v.old) }
 {
-    told(one(loops::arithmetic::vabs_s, word, v), word, vc, v)
+    put_clipped(one(loops::arithmetic::vabs_s, word, v), word, vc, v)
 }
 
-pub fn vneg_s(word: u32, vc: &mut [u32], v: &mut [u8]) -> Counted
-    requires { (length vc.old ≡ 4) × (length v.old ≡ 512) }
+pub fn vneg_s(word: u32, vc: &mut [u32; 4], v: &mut [u8; 512]) -> Counted
     ensures { result_from result (vectors vc.new v.new) ≡ result_of (arith_of (fields_of word) Neg true Absent) (vectors vc.old v.old) }
 {
-    told(one(loops::arithmetic::vneg_s, word, v), word, vc, v)
+    put_clipped(one(loops::arithmetic::vneg_s, word, v), word, vc, v)
 }
 
-pub fn vabs_u(word: u32, vc: &mut [u32], v: &mut [u8]) -> Counted
-    requires { (length vc.old ≡ 4) × (length v.old ≡ 512) }
+pub fn vabs_u(word: u32, vc: &mut [u32; 4], v: &mut [u8; 512]) -> Counted
     ensures { result_from result (vectors vc.new v.new) ≡ result_of (arith_of (fields_of word) Abs false Absent) (vectors vc.old v.old) }
 {
-    told(one(loops::arithmetic::vabs_u, word, v), word, vc, v)
+    put_clipped(one(loops::arithmetic::vabs_u, word, v), word, vc, v)
 }
 
-pub fn vsar(word: u32, vc: &mut [u32], v: &mut [u8]) -> Counted
-    requires { (length vc.old ≡ 4) × (length v.old ≡ 512) }
+pub fn vsar(word: u32, vc: &mut [u32; 4], v: &mut [u8; 512]) -> Counted
     ensures { result_from result (vectors vc.new v.new) ≡ result_of (shift_of (fields_of word) true (second_by word)) (vectors vc.old v.old) }
 {
-    silent(with_second(loops::shifts::vsar, word, v), word, vc, v)
+    put(with_second(loops::shifts::vsar, word, v), word, vc, v)
 }
 
-pub fn vshr(word: u32, vc: &mut [u32], v: &mut [u8]) -> Counted
-    requires { (length vc.old ≡ 4) × (length v.old ≡ 512) }
+pub fn vshr(word: u32, vc: &mut [u32; 4], v: &mut [u8; 512]) -> Counted
     ensures { result_from result (vectors vc.new v.new) ≡ result_of (shift_of (fields_of word) false (second_by word)) (vectors vc.old v.old) }
 {
-    silent(with_second(loops::shifts::vshr, word, v), word, vc, v)
+    put(with_second(loops::shifts::vshr, word, v), word, vc, v)
 }
 
-pub fn vclip(word: u32, vc: &mut [u32], v: &mut [u8]) -> Counted
-    requires { (length vc.old ≡ 4) × (length v.old ≡ 512) }
+pub fn vclip(word: u32, vc: &mut [u32; 4], v: &mut [u8; 512]) -> Counted
     ensures { result_from result (vectors vc.new v.new) ≡ result_of (clip_of (fields_of word)) (vectors vc.old v.old) }
 {
-    silent(three(loops::clamp::vclip, word, v), word, vc, v)
+    put(three(loops::clamp::vclip, word, v), word, vc, v)
 }
 
-pub fn vadd9(word: u32, vc: &mut [u32], v: &mut [u8]) -> Counted
-    requires { (length vc.old ≡ 4) × (length v.old ≡ 512) }
+pub fn vadd9(word: u32, vc: &mut [u32; 4], v: &mut [u8; 512]) -> Counted
     ensures { result_from result (vectors vc.new v.new) ≡ result_of (add9_of (fields_of word)) (vectors vc.old v.old) }
 {
-    told(three(loops::nine::vadd9, word, v), word, vc, v)
+    put_clipped(three(loops::nine::vadd9, word, v), word, vc, v)
 }
 
-pub fn vminabs(word: u32, vc: &mut [u32], v: &mut [u8]) -> Counted
-    requires { (length vc.old ≡ 4) × (length v.old ≡ 512) }
+pub fn vminabs(word: u32, vc: &mut [u32; 4], v: &mut [u8; 512]) -> Counted
     ensures { result_from result (vectors vc.new v.new) ≡ result_of (min_abs_of (fields_of word)) (vectors vc.old v.old) }
 {
-    silent(two(loops::clamp::vminabs, word, v), word, vc, v)
+    put(two(loops::clamp::vminabs, word, v), word, vc, v)
 }
 
-pub fn vbitop(word: u32, vc: &mut [u32], v: &mut [u8]) -> Counted
-    requires { (length vc.old ≡ 4) × (length v.old ≡ 512) }
+pub fn vbitop(word: u32, vc: &mut [u32; 4], v: &mut [u8; 512]) -> Counted
     ensures { result_from result (vectors vc.new v.new) ≡ result_of (vbitop_of (fields_of word)) (vectors vc.old v.old) }
 {
     let f = words::cut(word);
-    silent(loops::bitwise::vbitop(f.bitop, pieces::vreg(v, f.src1), pieces::vreg(v, f.src2)), word, vc, v)
+    put(loops::bitwise::vbitop(f.bitop, pieces::vreg(v, f.src1), pieces::vreg(v, f.src2)), word, vc, v)
 }
 
-pub fn vand(word: u32, vc: &mut [u32], v: &mut [u8]) -> Counted
-    requires { (length vc.old ≡ 4) × (length v.old ≡ 512) }
+pub fn vand(word: u32, vc: &mut [u32; 4], v: &mut [u8; 512]) -> Counted
     ensures { result_from result (vectors vc.new v.new) ≡ result_of (logic_of (fields_of word) And) (vectors vc.old v.old) }
 {
-    silent(with_byte(loops::bitwise::vand, word, v), word, vc, v)
+    put(with_byte(loops::bitwise::vand, word, v), word, vc, v)
 }
 
-pub fn vxor(word: u32, vc: &mut [u32], v: &mut [u8]) -> Counted
-    requires { (length vc.old ≡ 4) × (length v.old ≡ 512) }
+pub fn vxor(word: u32, vc: &mut [u32; 4], v: &mut [u8; 512]) -> Counted
     ensures { result_from result (vectors vc.new v.new) ≡ result_of (logic_of (fields_of word) Xor) (vectors vc.old v.old) }
 {
-    silent(with_byte(loops::bitwise::vxor, word, v), word, vc, v)
+    put(with_byte(loops::bitwise::vxor, word, v), word, vc, v)
 }
 
-pub fn vor(word: u32, vc: &mut [u32], v: &mut [u8]) -> Counted
-    requires { (length vc.old ≡ 4) × (length v.old ≡ 512) }
+pub fn vor(word: u32, vc: &mut [u32; 4], v: &mut [u8; 512]) -> Counted
     ensures { result_from result (vectors vc.new v.new) ≡ result_of (logic_of (fields_of word) Or) (vectors vc.old v.old) }
 {
-    silent(with_byte(loops::bitwise::vor, word, v), word, vc, v)
+    put(with_byte(loops::bitwise::vor, word, v), word, vc, v)
 }
 
-pub fn mov(word: u32, vc: &mut [u32], v: &mut [u8]) -> Counted
-    requires { (length vc.old ≡ 4) × (length v.old ≡ 512) }
+pub fn mov(word: u32, vc: &mut [u32; 4], v: &mut [u8; 512]) -> Counted
     ensures { result_from result (vectors vc.new v.new) ≡ result_of (mov_of (fields_of word)) (vectors vc.old v.old) }
 {
-    silent(one(lanes::moves::mov, word, v), word, vc, v)
+    put(one(lanes::moves::mov, word, v), word, vc, v)
 }
 
-pub fn vmov(word: u32, vc: &mut [u32], v: &mut [u8]) -> Counted
-    requires { (length vc.old ≡ 4) × (length v.old ≡ 512) }
+pub fn vmov(word: u32, vc: &mut [u32; 4], v: &mut [u8; 512]) -> Counted
     ensures { result_from result (vectors vc.new v.new) ≡ result_of (mov_imm_of (fields_of word)) (vectors vc.old v.old) }
 {
-    silent(lanes::moves::vmov(words::cut(word).byte), word, vc, v)
+    put(lanes::moves::vmov(words::cut(word).byte), word, vc, v)
 }
 
-pub fn mov_vc(word: u32, vc: &[u32], v: &mut [u8]) -> Counted
-    requires { (length vc.now ≡ 4) × (length v.old ≡ 512) }
+pub fn mov_vc(word: u32, vc: &[u32; 4], v: &mut [u8; 512]) -> Counted
     ensures { result_from result (vectors vc.now v.new) ≡ result_of (mov_flags_of (fields_of word)) (vectors vc.now v.old) }
 {
     let f = words::cut(word);
@@ -248,8 +217,7 @@ pub fn mov_vc(word: u32, vc: &[u32], v: &mut [u8]) -> Counted
     Counted::Nothing
 }
 
-pub fn vswz(word: u32, v: &mut [u8]) -> Counted
-    requires { length v.old ≡ 512 }
+pub fn vswz(word: u32, v: &mut [u8; 512]) -> Counted
     ensures { result_from result (vectors [] v.new) ≡ result_of (swz_of (fields_of word)) (vectors [] v.old) }
 {
     let f = words::cut(word);
@@ -261,25 +229,18 @@ pub fn vswz(word: u32, v: &mut [u8]) -> Counted
 }
 
 // Source 1 names a pair of registers: the odd one holds what the distances are compared with. Where there is no $vc[VCDST] nothing is written.
-fn compared(f: Fields, mask: u32, vc: &mut [u32], v: &[u8])
-    requires { (length vc.old ≡ 4) × (length v.now ≡ 512) × (f.src1 < 32) × (f.src2 < 32) }
-    ensures { vectors vc.new v.now ≡ vectored (cmpad_of f mask) (vectors vc.old v.now) }
+#[tactic(auto, using(crate::proofs::Pair::pair), unfolding(crate::specs::Inner::Effect::result_of, crate::specs::Inner::Effect::counted_of, crate::specs::Inner::Effect::vectored, pieces::specs::Inner::Regs::flags_at))]
+pub fn vcmpad(word: u32, mask: u32, vc: &mut [u32; 4], v: &[u8; 512]) -> Counted
+    ensures { result_from result (vectors vc.new v.now) ≡ result_of (cmpad_of (fields_of word) mask) (vectors vc.old v.now) }
 {
+    let f = words::cut(word);
     if f.flags < 4 {
-        let other = pieces::vreg(v, f.src1 | 1);
         let a = pieces::vreg(v, f.src1);
+        let other = pieces::vreg(v, f.src1 | 1);
         let b = pieces::vreg(v, f.src2);
         let input = ports::input_of(f.flags, mask, vc);
         let x = loops::compare::vcmpad(f.cmpop, input, a, other, b);
         pieces::set_flags(vc, f.flags, x.signs, x.zeros);
     }
-}
-
-pub fn vcmpad(word: u32, mask: u32, vc: &mut [u32], v: &[u8]) -> Counted
-    requires { (length vc.old ≡ 4) × (length v.now ≡ 512) }
-    ensures { result_from result (vectors vc.new v.now) ≡ result_of (cmpad_of (fields_of word) mask) (vectors vc.old v.now) }
-{
-    let f = words::cut(word);
-    compared(f, mask, vc, v);
     Counted::Nothing
 }
