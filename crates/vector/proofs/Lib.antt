@@ -1,4 +1,3 @@
 -- The tie to the model.
 pub mod Closed
-pub mod Packs
-pub mod Pair
+pub mod Laws

@@ -1,6 +1,6 @@
 // The vector unit's instructions, on the two pieces that it changes: sources are read into values first, then the result is written.
 // Each takes the word, so that only the fields that it uses are cut from it, and hands back what it counts.
-#![tactic(auto, using(crate::proofs::Packs::packings), unfolding(crate::specs::Inner::Effect::result_of, crate::specs::Inner::Effect::counted_of, crate::specs::Inner::Effect::vectored, ports::specs::Inner::Ports::second_of))]
+#![tactic(auto, using(crate::proofs::Laws::laws), unfolding(crate::specs::Inner::Effect::result_of, crate::specs::Inner::Effect::counted_of, crate::specs::Inner::Effect::vectored, ports::specs::Inner::Ports::second_of, pieces::specs::Inner::Regs::flags_at))]
 
 ghost use Rattle.std.specs.Prelude.{◌≡◌, true, false, [], ◌<◌, length};
 ghost use Rattle.lane.specs.declared.Calc.TheVariants.{Min, Max, Abs, Neg, Add, Sub};
@@ -229,7 +229,6 @@ pub fn vswz(word: u32, v: &mut [u8; 512]) -> Counted
 }
 
 // Source 1 names a pair of registers: the odd one holds what the distances are compared with. Where there is no $vc[VCDST] nothing is written.
-#[tactic(auto, using(crate::proofs::Pair::pair), unfolding(crate::specs::Inner::Effect::result_of, crate::specs::Inner::Effect::counted_of, crate::specs::Inner::Effect::vectored, pieces::specs::Inner::Regs::flags_at))]
 pub fn vcmpad(word: u32, mask: u32, vc: &mut [u32; 4], v: &[u8; 512]) -> Counted
     ensures { result_from result (vectors vc.new v.now) ≡ result_of (cmpad_of (fields_of word) mask) (vectors vc.old v.now) }
 {
