@@ -26,11 +26,18 @@ fn one<F: FnOnce([u8; 16]) -> Unpacked>(op: F, word: u32, v: &[u8; 512]) -> Unpa
 }
 
 // An operation of two sources, of which the second is a register or BIMM by the opcode.
-fn with_second<F: FnOnce([u8; 16], [u8; 16]) -> Unpacked>(op: F, word: u32, v: &[u8; 512]) -> Unpacked
+fn with_second<F: FnOnce([u8; 16], [u8; 16]) -> Unpacked>(
+    op: F,
+    word: u32,
+    v: &[u8; 512],
+) -> Unpacked
     requires { F.IsAlwaysCallable op }
     ensures { F.post op (vreg_of v.now (fields_of word).src1) (second_of (second_by word) v.now) result }
 {
-    op(pieces::vreg(v, words::cut(word).src1), ports::second_of(word, v))
+    op(
+        pieces::vreg(v, words::cut(word).src1),
+        ports::second_of(word, v),
+    )
 }
 
 // An operation of the registers SRC1 and SRC2.
@@ -43,12 +50,20 @@ fn two<F: FnOnce([u8; 16], [u8; 16]) -> Unpacked>(op: F, word: u32, v: &[u8; 512
 }
 
 // An operation of the registers SRC1, SRC2 and SRC3.
-fn three<F: FnOnce([u8; 16], [u8; 16], [u8; 16]) -> Unpacked>(op: F, word: u32, v: &[u8; 512]) -> Unpacked
+fn three<F: FnOnce([u8; 16], [u8; 16], [u8; 16]) -> Unpacked>(
+    op: F,
+    word: u32,
+    v: &[u8; 512],
+) -> Unpacked
     requires { F.IsAlwaysCallable op }
     ensures { F.post op (vreg_of v.now (fields_of word).src1) (vreg_of v.now (fields_of word).src2) (vreg_of v.now (fields_of word).src3) result }
 {
     let f = words::cut(word);
-    op(pieces::vreg(v, f.src1), pieces::vreg(v, f.src2), pieces::vreg(v, f.src3))
+    op(
+        pieces::vreg(v, f.src1),
+        pieces::vreg(v, f.src2),
+        pieces::vreg(v, f.src3),
+    )
 }
 
 // An operation of the register SRC1 and of BIMM.
@@ -176,7 +191,12 @@ pub fn vbitop(word: u32, vc: &mut [u32; 4], v: &mut [u8; 512]) -> Counted
     ensures { result_from result (vectors vc.new v.new) ≡ result_of (vbitop_of (fields_of word)) (vectors vc.old v.old) }
 {
     let f = words::cut(word);
-    put(loops::bitwise::vbitop(f.bitop, pieces::vreg(v, f.src1), pieces::vreg(v, f.src2)), word, vc, v)
+    put(
+        loops::bitwise::vbitop(f.bitop, pieces::vreg(v, f.src1), pieces::vreg(v, f.src2)),
+        word,
+        vc,
+        v,
+    )
 }
 
 pub fn vand(word: u32, vc: &mut [u32; 4], v: &mut [u8; 512]) -> Counted
