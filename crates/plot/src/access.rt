@@ -2,60 +2,94 @@
 ghost use Rattle.std.specs.Prelude.{◌≡◌, ◌<◌};
 ghost use Rattle.banks.specs.Line.{count_of};
 
+use crate::stride::Stride;
+use std::fmt;
 use terms::Way;
 
-// How many addresses there are.
-pub fn count(way: Way) -> usize
-    ensures { result ≡ count_of way }
-{
-    match way {
-        Way::Horizontal => 16,
-        Way::Vertical => 16,
-        Way::Scalar => 4,
+// The halves of a cell that are entered.
+#[derive(Clone, Copy)]
+pub enum Halves {
+    Low,
+    High,
+    Both,
+}
+
+impl fmt::Display for Halves {
+    fn fmt<W: fmt::Write>(&self, f: &mut fmt::Formatter<W>) -> fmt::Result {
+        f.write_str(match self {
+            Halves::Low => "low",
+            Halves::High => "high",
+            Halves::Both => "low and high",
+        })
     }
 }
 
-// Number i of them.
-pub fn address(way: Way, code: usize, addr: usize, i: usize) -> usize
-    requires { (code < 4) × (i < count_of way) }
-    ensures { result < 8192 }
-{
-    let start = banks::start(way, code, addr);
-    let step = banks::step(way, code);
-    start + i * step
+// What is entered of a bank.
+#[derive(Clone, Copy)]
+pub struct Entered {
+    pub cell: usize,
+    pub halves: Halves,
 }
 
-// The half of the bank's cell that an address names, as a bit: 1 is low, 2 is high, and 0 an address of another bank.
-fn half(code: usize, bank: usize, a: usize) -> u32
-    requires { (code < 4) × (a < 8192) }
-{
-    if banks::bank(code, a) == bank {
-        1 << (a / 16 % 2)
-    } else {
-        0
-    }
+#[derive(Clone, Copy)]
+pub struct Access {
+    pub way: Way,
+    pub stride: Stride,
+    pub at: usize,
 }
 
-// The halves that all of them name: 3 is both, and 0 a bank that is not entered.
-pub fn halves(way: Way, code: usize, addr: usize, bank: usize) -> u32
-    requires { code < 4 }
-{
-    let mut seen: u32 = 0;
-    for i in 0..count(way) {
-        seen = seen | half(code, bank, address(way, code, addr, i));
-    }
-    seen
-}
-
-// The cell that is entered in a bank. The first address of this bank decides, since no access has two cells in one bank.
-pub fn cell(way: Way, code: usize, addr: usize, bank: usize) -> usize
-    requires { code < 4 }
-{
-    for i in 0..count(way) {
-        let a = address(way, code, addr, i);
-        if banks::bank(code, a) == bank {
-            return a / 32;
+impl Access {
+    // How many addresses there are.
+    pub fn count(self) -> usize
+        ensures { result ≡ count_of self.way }
+    {
+        match self.way {
+            Way::Horizontal | Way::Vertical => 16,
+            Way::Scalar => 4,
         }
     }
-    0
+
+    // Number i of them.
+    pub fn address(self, i: usize) -> usize
+        requires { i < count_of self.way }
+        ensures { result < 8192 }
+    {
+        let start = banks::start(self.way, self.stride.code, self.at);
+        let step = banks::step(self.way, self.stride.code);
+        start + i * step
+    }
+
+    // Whether an address names this half of a cell of the bank.
+    fn names(self, bank: usize, half: usize) -> bool {
+        (0..self.count()).any(|i| {
+            let a = self.address(i);
+            self.stride.bank(a) == bank && a / 16 % 2 == half
+        })
+    }
+
+    // The halves that all addresses name of a bank, if it is entered.
+    fn halves(self, bank: usize) -> Option<Halves> {
+        match (self.names(bank, 0), self.names(bank, 1)) {
+            (false, false) => None,
+            (true, false) => Some(Halves::Low),
+            (false, true) => Some(Halves::High),
+            (true, true) => Some(Halves::Both),
+        }
+    }
+
+    // The cell that is entered in a bank. The first address of this bank decides, since no access has two cells in one bank.
+    fn cell(self, bank: usize) -> Option<usize> {
+        (0..self.count())
+            .map(|i| self.address(i))
+            .find(|a| self.stride.bank(*a) == bank)
+            .map(|a| a / 32)
+    }
+
+    // What is entered of a bank, if anything is.
+    pub fn entered(self, bank: usize) -> Option<Entered> {
+        Some(Entered {
+            cell: self.cell(bank)?,
+            halves: self.halves(bank)?,
+        })
+    }
 }

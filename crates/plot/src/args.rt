@@ -1,81 +1,47 @@
-// What the arguments say: a word, a stride code, a way, an address.
+// What the arguments say, if it is what is taken: a word, a stride code, a way, an address.
+use crate::stride::Stride;
 use terms::Way;
-use text::{args, digits};
-
-// A way, if the argument names one.
-#[derive(Clone, Copy)]
-pub enum Asked {
-    Known(Way),
-    Unknown,
-}
-
-// No address: the first number above them.
-pub const NOWHERE: usize = 8192;
-
-fn same(a: &[u8], b: &[u8]) -> bool {
-    if a.len() != b.len() {
-        return false;
-    }
-    for i in 0..a.len() {
-        if a[i] != b[i] {
-            return false;
-        }
-    }
-    true
-}
+use text::args::whole;
+use text::number;
 
 // Whether argument i is a word of up to ten bytes.
 pub fn is(rt: HostRuntime, i: usize, word: &[u8]) -> bool {
     let mut arg = [0u8; 10];
-    let n = args::whole(rt, i, &mut arg);
-    same(&arg[..n], word)
+    let n = whole(rt, i, &mut arg);
+    &arg[..n] == word
 }
 
-// The value of a single digit, or 16.
-pub fn code(rt: HostRuntime, i: usize) -> usize {
+// A single digit below 4.
+pub fn stride(rt: HostRuntime, i: usize) -> Option<Stride> {
     let mut digit = [0u8; 1];
-    if args::whole(rt, i, &mut digit) == 1 {
-        digits::value(digit[0]) as usize
-    } else {
-        16
+    if whole(rt, i, &mut digit) != 1 {
+        return None;
+    }
+    let code = (digit[0] as char).to_digit(4)?;
+    Some(Stride {
+        code: code as usize,
+    })
+}
+
+pub fn way(rt: HostRuntime, i: usize) -> Option<Way> {
+    let mut arg = [0u8; 10];
+    let n = whole(rt, i, &mut arg);
+    match &arg[..n] {
+        b"horizontal" => Some(Way::Horizontal),
+        b"vertical" => Some(Way::Vertical),
+        b"scalar" => Some(Way::Scalar),
+        _ => None,
     }
 }
 
-pub fn way(rt: HostRuntime, i: usize) -> Asked {
-    if is(rt, i, b"horizontal") {
-        return Asked::Known(Way::Horizontal);
-    }
-    if is(rt, i, b"vertical") {
-        return Asked::Known(Way::Vertical);
-    }
-    if is(rt, i, b"scalar") {
-        return Asked::Known(Way::Scalar);
-    }
-    Asked::Unknown
-}
-
-// The value of one to four hexadecimal digits.
-fn number(text: &[u8]) -> usize {
-    if text.len() == 0 || text.len() > 4 {
-        return NOWHERE;
-    }
-    let mut value = 0;
-    for i in 0..text.len() {
-        let digit = digits::value(text[i]);
-        if digit > 15 {
-            return NOWHERE;
-        }
-        value = value << 4 | digit as usize;
-    }
-    value
-}
-
-// The address, or a number above all addresses.
-pub fn address(rt: HostRuntime, i: usize) -> usize {
+// One to four hexadecimal digits, with or without 0x, below 0x2000.
+pub fn address(rt: HostRuntime, i: usize) -> Option<usize> {
     let mut arg = [0u8; 6];
-    let n = args::whole(rt, i, &mut arg);
-    if n > 2 && arg[0] == b'0' && arg[1] == b'x' {
-        return number(&arg[2..n]);
+    let n = whole(rt, i, &mut arg);
+    let text = &arg[..n];
+    if text.strip_prefix(b"0x").unwrap_or(text).len() > 4 {
+        return None;
     }
-    number(&arg[..n])
+    let address = number::hex(text)? as usize;
+    if address < 8192 { Some(address) } else { None }
 }

@@ -1,186 +1,140 @@
 // The curve: how many banks a vertical load enters, by the column that it starts in, a line for each stride.
 ghost use Rattle.std.specs.Prelude.{◌≤◌, ◌<◌};
 
-use crate::svg::put;
-use crate::{access, svg};
+use crate::access::Access;
+use crate::stride::Stride;
+use crate::svg;
 use std::io::Stdout;
 use terms::Way;
-use text::print::text;
 
-// The bank of address i of the load, as a bit.
-fn bit_at(code: usize, column: usize, i: usize) -> u32
-    requires { (code < 4) × (column < 16) × (i < 16) }
-{
-    1 << banks::bank(code, access::address(Way::Vertical, code, column, i))
+const NAME: &str = "How many banks a vertical load enters, by the column it starts in";
+
+// How a stride's line and points are drawn.
+#[derive(Clone, Copy)]
+struct Pen {
+    style: &'static str,
+    radius: usize,
 }
 
-// One for a bank that was not met before.
-fn fresh(seen: u32, bit: u32) -> usize
-    ensures { result ≤ 1 }
-{
-    if seen & bit == 0 { 1 } else { 0 }
-}
+// By stride code. The lines of the last three lie on each other, so they go from wide to narrow and the last is dashed.
+const PENS: [Pen; 4] = [
+    Pen {
+        style: r##"fill="#0080d0" stroke="#0080d0" stroke-width="6""##,
+        radius: 7,
+    },
+    Pen {
+        style: r##"fill="#003366" stroke="#003366" stroke-width="18""##,
+        radius: 12,
+    },
+    Pen {
+        style: r##"fill="#d55e00" stroke="#d55e00" stroke-width="11""##,
+        radius: 8,
+    },
+    Pen {
+        style: r##"fill="#000000" stroke="#000000" stroke-width="4" stroke-dasharray="6 8 12 8 6 0""##,
+        radius: 4,
+    },
+];
 
-// How many different banks the load's addresses have.
-fn entered(code: usize, column: usize) -> usize
-    requires { (code < 4) × (column < 16) }
+// How many different banks the addresses of the load have.
+fn entered(stride: Stride, column: usize) -> usize
     ensures { result ≤ 16 }
 {
-    let mut seen: u32 = 0;
-    let mut n = 0;
-    for i in 0..16 {
-        let bit = bit_at(code, column, i);
-        n += fresh(seen, bit);
-        seen = seen | bit;
-    }
-    n
+    let load = Access {
+        way: Way::Vertical,
+        stride,
+        at: column,
+    };
+    (0..16).filter(|&bank| load.entered(bank).is_some()).count()
 }
 
-fn height(code: usize, column: usize) -> usize
-    requires { (code < 4) × (column < 16) }
+fn height(stride: Stride, column: usize) -> usize
     ensures { result ≤ 420 }
 {
-    420 - 20 * entered(code, column)
-}
-
-fn name(out: Stdout) {
-    text(
-        out,
-        b"How many banks a vertical load enters, by the column it starts in",
-    );
+    420 - 20 * entered(stride, column)
 }
 
 fn counts(out: Stdout) {
-    text(out, b"<g text-anchor=\"end\">\n");
+    let _ = println!(out; r#"<g text-anchor="end">"#);
     for k in 0..9 {
-        put(
-            out,
-            b"<path d=\"M80 ",
-            420 - 40 * k,
-            b"H720\" stroke=\"#d0d0d0\"/>\n",
+        let _ = println!(out;
+            r##"<path d="M80 {}H720" stroke="#d0d0d0"/>"##,
+            420 - 40 * k
         );
         svg::label(out, 70, 425 - 40 * k, 2 * k);
     }
-    text(out, b"</g>\n");
+    let _ = println!(out; "</g>");
 }
 
 fn axes(out: Stdout) {
     counts(out);
     svg::columns(out, 445);
-    text(
-        out,
-        b"<path d=\"M80 80V420H720\" fill=\"none\" stroke=\"#000000\" stroke-width=\"2\"/>\n",
+    let _ = println!(out;
+        r##"<path d="M80 80V420H720" fill="none" stroke="#000000" stroke-width="2"/>"##
     );
-    text(
-        out,
-        b"<text x=\"400\" y=\"478\" text-anchor=\"middle\" font-size=\"16\">",
+    let _ = println!(out;
+        r#"<text x="400" y="478" text-anchor="middle" font-size="16">column that the load starts in (its address, 0 to 15)</text>"#
     );
-    text(
-        out,
-        b"column that the load starts in (its address, 0 to 15)</text>\n",
+    let _ = println!(out;
+        r#"<text x="34" y="250" transform="rotate(-90 34 250)" text-anchor="middle" font-size="16">different banks among its 16 addresses</text>"#
     );
-    text(
-        out,
-        b"<text x=\"34\" y=\"250\" transform=\"rotate(-90 34 250)\" text-anchor=\"middle\" font-size=\"16\">",
-    );
-    text(out, b"different banks among its 16 addresses</text>\n");
 }
 
-fn style(out: Stdout, code: usize) {
-    match code {
-        0 => text(
-            out,
-            b"<g fill=\"#0080d0\" stroke=\"#0080d0\" stroke-width=\"6\">\n",
-        ),
-        1 => text(
-            out,
-            b"<g fill=\"#003366\" stroke=\"#003366\" stroke-width=\"18\">\n",
-        ),
-        2 => text(
-            out,
-            b"<g fill=\"#d55e00\" stroke=\"#d55e00\" stroke-width=\"11\">\n",
-        ),
-        _ => text(
-            out,
-            b"<g fill=\"#000000\" stroke=\"#000000\" stroke-width=\"4\" stroke-dasharray=\"6 8 12 8 6 0\">\n",
-        ),
-    }
+fn circle(out: Stdout, pen: Pen, x: usize, y: usize) {
+    let _ = println!(out;
+        r#"<circle cx="{x}" cy="{y}" r="{}" stroke="none"/>"#,
+        pen.radius
+    );
 }
 
-fn radius(code: usize) -> usize {
-    match code {
-        0 => 7,
-        1 => 12,
-        2 => 8,
-        _ => 4,
-    }
-}
-
-fn circle(out: Stdout, code: usize, x: usize, y: usize) {
-    put(out, b"<circle cx=\"", x, b"\" cy=\"");
-    put(out, b"", y, b"\" r=\"");
-    put(out, b"", radius(code), b"\" stroke=\"none\"/>\n");
-}
-
-fn line(out: Stdout, code: usize)
-    requires { code < 4 }
-{
-    put(out, b"<polyline points=\"100,", height(code, 0), b"");
+fn line(out: Stdout, stride: Stride) {
+    let _ = print!(out;
+        r#"<polyline points="{},{}"#,
+        svg::middle(0),
+        height(stride, 0)
+    );
     for c in 1..16 {
-        put(out, b" ", svg::middle(c), b",");
-        put(out, b"", height(code, c), b"");
+        let _ = print!(out; " {},{}", svg::middle(c), height(stride, c));
     }
-    text(out, b"\" fill=\"none\"/>\n");
+    let _ = println!(out; r#"" fill="none"/>"#);
 }
 
-fn circles(out: Stdout, code: usize)
-    requires { code < 4 }
-{
+fn circles(out: Stdout, stride: Stride, pen: Pen) {
     for c in 0..16 {
-        circle(out, code, svg::middle(c), height(code, c));
+        circle(out, pen, svg::middle(c), height(stride, c));
     }
 }
 
 // A stride's line and points, and the same beside its name.
-fn series(out: Stdout, code: usize)
-    requires { code < 4 }
-{
-    let y = 110 + 40 * code;
-    style(out, code);
-    line(out, code);
-    circles(out, code);
-    put(out, b"<path d=\"M750 ", y, b"H830\"/>\n");
-    circle(out, code, 790, y);
-    put(out, b"</g>\n<text x=\"850\" y=\"", y + 5, b"\">stride ");
-    svg::stride(out, code);
-    put(out, b" (code ", code, b")</text>\n");
+fn series(out: Stdout, stride: Stride) {
+    let pen = PENS[stride.code];
+    let y = 110 + 40 * stride.code;
+    let _ = println!(out; "<g {}>", pen.style);
+    line(out, stride);
+    circles(out, stride, pen);
+    let _ = println!(out; r#"<path d="M750 {y}H830"/>"#);
+    circle(out, pen, 790, y);
+    let _ = println!(out; "</g>");
+    let _ = println!(out;
+        r#"<text x="850" y="{}">stride 0x{:x} (code {})</text>"#,
+        y + 5,
+        stride.bytes(),
+        stride.code
+    );
 }
 
 fn note(out: Stdout) {
-    text(
-        out,
-        b"<text x=\"750\" y=\"290\">The lines of 0x20, 0x40 and 0x80</text>\n",
-    );
-    text(
-        out,
-        b"<text x=\"750\" y=\"312\">lie on each other: each of these</text>\n",
-    );
-    text(
-        out,
-        b"<text x=\"750\" y=\"334\">loads enters all 16 banks.</text>\n",
-    );
+    let _ = println!(out; r#"<text x="750" y="290">The lines of 0x20, 0x40 and 0x80</text>"#);
+    let _ = println!(out; r#"<text x="750" y="312">lie on each other: each of these</text>"#);
+    let _ = println!(out; r#"<text x="750" y="334">loads enters all 16 banks.</text>"#);
 }
 
 pub fn picture(out: Stdout) {
-    svg::begin(out, 1020, 500);
-    name(out);
-    svg::headline(out, 510);
-    name(out);
-    text(out, b"</text>\n");
+    svg::begin(out, 1020, 500, &NAME);
     axes(out);
     for code in 0..4 {
-        series(out, code);
+        series(out, Stride { code });
     }
     note(out);
-    text(out, b"</svg>\n");
+    let _ = println!(out; "</svg>");
 }

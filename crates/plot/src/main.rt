@@ -6,47 +6,45 @@ mod args;
 mod curve;
 mod load;
 mod map;
+mod stride;
 mod svg;
 
-use crate::args::Asked;
+use crate::access::Access;
+use crate::stride::Stride;
 use std::io::Stderr;
-use text::say::say;
+
+enum Picture {
+    Curve,
+    Map(Stride),
+    Load(Access),
+}
+
+// The picture that is asked for, if the arguments name one.
+fn asked(rt: HostRuntime) -> Option<Picture> {
+    match text::args::count(rt) {
+        0 | 1 => Some(Picture::Curve),
+        3 if args::is(rt, 1, b"map") => Some(Picture::Map(args::stride(rt, 2)?)),
+        5 if args::is(rt, 1, b"load") => Some(Picture::Load(Access {
+            way: args::way(rt, 2)?,
+            stride: args::stride(rt, 3)?,
+            at: args::address(rt, 4)?,
+        })),
+        _ => None,
+    }
+}
 
 fn usage(err: Stderr) {
-    say(
-        err,
-        b"usage: plot [map CODE | load WAY CODE ADDRESS]: CODE 0 to 3, WAY horizontal, vertical or scalar, ADDRESS 0x0 to 0x1fff\n",
+    let _ = println!(err;
+        "usage: plot [map CODE | load WAY CODE ADDRESS]: CODE 0 to 3, WAY horizontal, vertical or scalar, ADDRESS 0x0 to 0x1fff"
     );
 }
 
-fn draw_map(rt: HostRuntime) {
-    let code = args::code(rt, 2);
-    if args::is(rt, 1, b"map") && code < 4 {
-        map::picture(rt.stdout(), code);
-    } else {
-        usage(rt.stderr());
-    }
-}
-
-fn draw_load(rt: HostRuntime) {
-    let Asked::Known(way) = args::way(rt, 2) else {
-        usage(rt.stderr());
-        return;
-    };
-    let code = args::code(rt, 3);
-    let addr = args::address(rt, 4);
-    if args::is(rt, 1, b"load") && code < 4 && addr < args::NOWHERE {
-        load::picture(rt.stdout(), way, code, addr);
-    } else {
-        usage(rt.stderr());
-    }
-}
-
 fn main(rt: HostRuntime) {
-    match text::args::count(rt) {
-        0 | 1 => curve::picture(rt.stdout()),
-        3 => draw_map(rt),
-        5 => draw_load(rt),
-        _ => usage(rt.stderr()),
+    let out = rt.stdout();
+    match asked(rt) {
+        Some(Picture::Curve) => curve::picture(out),
+        Some(Picture::Map(stride)) => map::picture(out, stride),
+        Some(Picture::Load(load)) => load::picture(out, load),
+        None => usage(rt.stderr()),
     }
 }
