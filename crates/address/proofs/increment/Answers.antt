@@ -6,7 +6,7 @@ use Rattle.address.proofs.increment.Goals as goal
 
 pub returns-in-Register : goal.returns-in-Register
 unfolding inc_of base_of
-returns-in-Register c = rw (c.in-Register.is, c.base_at-b.ensures.0) refl
+returns-in-Register c = rw (c.in-Register.is, c.base_at.ensures.0) refl
 
 pub returns-in-Immediate : goal.returns-in-Immediate
 unfolding inc_of

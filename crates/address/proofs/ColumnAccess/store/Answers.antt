@@ -1,7 +1,9 @@
--- `address::column_out` meets its contract.
+-- A column stored.
 use Rattle.std.proofs.Common.{refl}
+use Rattle.address.specs.Inner.Effect.{kept, out_of}
 use Rattle.address.proofs.Columns.{read}
-use Rattle.address.proofs.column_out.Goals as goal
+use Rattle.address.proofs.ColumnAccess.store.Goals as goal
 
 pub returns : goal.returns
+unfolding kept out_of
 returns c = rw (c.store_column.ensures, read) refl

@@ -1,0 +1,8 @@
+-- A row stored.
+use Rattle.std.proofs.Common.{refl, rules}
+use Rattle.address.specs.Inner.Effect.{kept, out_of}
+use Rattle.address.proofs.RowAccess.store.Goals as goal
+
+pub returns : goal.returns
+unfolding kept out_of
+returns c = search rules

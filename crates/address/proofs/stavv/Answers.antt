@@ -1,7 +1,0 @@
--- `address::stavv` meets its contract.
-use Rattle.address.specs.Inner.Effect.{result_of, addressed, counted_in, kept, out_of}
-use Rattle.address.proofs.stavv.Goals as goal
-
-pub returns : goal.returns
-unfolding result_of addressed counted_in kept out_of
-returns c = cc
