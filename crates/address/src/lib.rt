@@ -2,114 +2,22 @@
 // uses are cut from it, and hands back what it counts.
 #![tactic(auto)]
 
-ghost use Rattle.std.specs.Prelude.{◌≡◌, ◌<◌, ℕ, List, [], slice_index, slice_set};
-ghost use Rattle.banks.specs.Line.{addresses};
-ghost use Rattle.banks.specs.Inner.Access.{places, cells_of};
-ghost use Rattle.terms.specs.declared.Way.{Way};
+ghost use Rattle.std.specs.Prelude.{◌≡◌, ◌<◌, [], slice_set};
+ghost use Rattle.banks.specs.Inner.Access.{cells_of};
 ghost use Rattle.terms.specs.declared.Way.TheVariants.{Horizontal, Vertical, Scalar};
-ghost use Rattle.store.specs.Inner.Loads.{loaded, stored};
 ghost use Rattle.words.specs.Inner.Bounded.{BoundedI};
 ghost use Rattle.words.specs.Fields.{fields_of};
 ghost use Rattle.words.specs.Table.{set_of, add_of, aadd_of, bitop_of, ld_of, st_of, lda_of, sta_of};
 ghost use Rattle.terms.specs.declared.Half.TheVariants.{Low, High};
-ghost use Rattle.pieces.specs.Inner.Regs.{plus, end_at, long_at, vreg_of, with_vreg};
-ghost use Rattle.address.specs.Inner.Effect.{five, base_in, inc_of, addr_at, fetched, kept, into_r, into_v, out_of, result_from, result_of};
+ghost use Rattle.pieces.specs.Inner.Regs.{plus, end_at, long_at};
+ghost use Rattle.address.specs.Inner.Effect.{five, base_in, inc_of, addr_at, result_from, result_of};
 
+mod access;
+
+use access::{Access, Column, Row, Word};
 use pieces::Base;
-use terms::{Counted, Half, Way};
+use terms::{Counted, Half};
 use words::{AccessAdd, Fields, Increment};
-
-// How an access of a way moves its bytes: a type for each way, since a value would be tested at every step.
-trait Access {
-    // The piece of the register that is loaded or stored: `$v` or `$r`.
-    type Registers;
-
-    ghost WAY: { Way };
-
-    // The piece as the instruction's `$r` and its `$v`, of which it lends one.
-    ghost as_r: { Self.Registers → List ℕ };
-
-    ghost as_v: { Self.Registers → List ℕ };
-
-    const WAY: Way;
-
-    fn load(n: usize, code: usize, x: usize, ds: &[u8; 8192], registers: &mut Self::Registers)
-        requires { (n < 32) × (code < 4) }
-        ensures { (as_r registers.new ≡ into_r WAY n (fetched WAY code x ds.now) (as_r registers.old))
-            × (as_v registers.new ≡ into_v WAY n (fetched WAY code x ds.now) (as_v registers.old)) };
-
-    fn store(n: usize, code: usize, x: usize, ds: &mut [u8; 8192], registers: &Self::Registers)
-        requires { (n < 32) × (code < 4) }
-        ensures { ds.new ≡ kept WAY code x (out_of WAY n (as_r registers.now) (as_v registers.now)) ds.old };
-}
-
-struct Row;
-
-impl Access for Row {
-    type Registers = [u8; 512];
-
-    ghost WAY = { Horizontal };
-
-    ghost as_r = { λ v. [] };
-
-    ghost as_v = { λ v. v };
-
-    const WAY: Way = Way::Horizontal;
-
-    fn load(n: usize, code: usize, x: usize, ds: &[u8; 8192], v: &mut [u8; 512]) {
-        pieces::set_vreg(v, n, store::load_row(ds, code, x));
-    }
-
-    fn store(n: usize, code: usize, x: usize, ds: &mut [u8; 8192], v: &[u8; 512]) {
-        store::store_row(ds, code, x, pieces::vreg(v, n));
-    }
-}
-
-struct Column;
-
-impl Access for Column {
-    type Registers = [u8; 512];
-
-    ghost WAY = { Vertical };
-
-    ghost as_r = { λ v. [] };
-
-    ghost as_v = { λ v. v };
-
-    const WAY: Way = Way::Vertical;
-
-    fn load(n: usize, code: usize, x: usize, ds: &[u8; 8192], v: &mut [u8; 512]) {
-        let at = 16 * n;
-        store::load_column(ds, code, x, &mut v[at..at + 16]);
-    }
-
-    fn store(n: usize, code: usize, x: usize, ds: &mut [u8; 8192], v: &[u8; 512]) {
-        let at = 16 * n;
-        store::store_column(ds, code, x, &v[at..at + 16]);
-    }
-}
-
-struct Word;
-
-impl Access for Word {
-    type Registers = [u32; 32];
-
-    ghost WAY = { Scalar };
-
-    ghost as_r = { λ r. r };
-
-    ghost as_v = { λ r. [] };
-
-    const WAY: Way = Way::Scalar;
-
-    fn load(n: usize, code: usize, x: usize, ds: &[u8; 8192], r: &mut [u32; 32]) {
-        r[n] = store::load_word(ds, code, x);
-    }
-
-    fn store(n: usize, code: usize, x: usize, ds: &mut [u8; 8192], r: &[u32; 32]) {
-        store::store_word(ds, code, x, r[n]);
-    }
-}
 
 fn base_at(a: &[u32; 32], n: usize) -> Base
     requires { n < 32 }
@@ -166,7 +74,7 @@ fn entered<W: Access>(code: usize) -> Counted
 }
 
 // The result of add and bitop, and its long flags.
-fn keep(f: Fields, res: u32, a: &mut [u32; 32], c: &mut [u32; 4]) -> Counted
+fn put_result(f: Fields, res: u32, a: &mut [u32; 32], c: &mut [u32; 4]) -> Counted
     requires { f.dst < 32 }
     ensures { (result ≡ Counted.Nothing) × (a.new ≡ slice_set a.old f.dst res) × (c.new ≡ long_at f.flags res c.old) }
 {
@@ -204,7 +112,7 @@ pub fn add(word: u32, index: u32, a: &mut [u32; 32], c: &mut [u32; 4]) -> Counte
         ≡ result_of (add_of (fields_of word) index) (five [] a.old [] c.old []) }
 {
     let f = words::cut(word);
-    keep(f, a[f.src1].wrapping_add(a[index as usize]), a, c)
+    put_result(f, a[f.src1].wrapping_add(a[index as usize]), a, c)
 }
 
 pub fn aadd(word: u32, index: u32, a: &mut [u32; 32], c: &mut [u32; 4]) -> Counted
@@ -223,7 +131,7 @@ pub fn bitop(word: u32, a: &mut [u32; 32], c: &mut [u32; 4]) -> Counted
         ≡ result_of (bitop_of (fields_of word)) (five [] a.old [] c.old []) }
 {
     let f = words::cut(word);
-    keep(f, bits::bitop32(f.bitop, a[f.src1], a[f.src2]), a, c)
+    put_result(f, bits::bitop32(f.bitop, a[f.src1], a[f.src2]), a, c)
 }
 
 // ldvh, ldvv and lds.

@@ -3,7 +3,7 @@ use Rattle.std.proofs.Common.{◌≡◌, length, ap, refl, ◌∙◌, arith, rul
 use Rattle.pieces.specs.Inner.Regs.{with_vreg}
 use Rattle.address.specs.Inner.Effect.{fetched, into_r, into_v}
 use Rattle.address.proofs.Columns.{pasted}
-use Rattle.address.proofs.ColumnAccess.load.Goals as goal
+use Rattle.address.proofs.access.ColumnAccess.load.Goals as goal
 
 pub returns : goal.returns
 unfolding fetched into_r into_v

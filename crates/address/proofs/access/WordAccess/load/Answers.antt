@@ -1,7 +1,7 @@
 -- A word loaded.
-use Rattle.std.proofs.Common.{refl, rules}
+use Rattle.std.proofs.Common.{rules}
 use Rattle.address.specs.Inner.Effect.{fetched, into_r, into_v}
-use Rattle.address.proofs.WordAccess.load.Goals as goal
+use Rattle.address.proofs.access.WordAccess.load.Goals as goal
 
 pub returns : goal.returns
 unfolding fetched into_r into_v

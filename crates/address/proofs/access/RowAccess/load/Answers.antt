@@ -1,7 +1,7 @@
 -- A row loaded.
-use Rattle.std.proofs.Common.{refl, rules}
+use Rattle.std.proofs.Common.{rules}
 use Rattle.address.specs.Inner.Effect.{fetched, into_r, into_v}
-use Rattle.address.proofs.RowAccess.load.Goals as goal
+use Rattle.address.proofs.access.RowAccess.load.Goals as goal
 
 pub returns : goal.returns
 unfolding fetched into_r into_v

@@ -1,7 +1,7 @@
--- A row stored.
+-- A word stored.
 use Rattle.std.proofs.Common.{refl, rules}
 use Rattle.address.specs.Inner.Effect.{kept, out_of}
-use Rattle.address.proofs.RowAccess.store.Goals as goal
+use Rattle.address.proofs.access.WordAccess.store.Goals as goal
 
 pub returns : goal.returns
 unfolding kept out_of
