@@ -1,4 +1,3 @@
 -- The tie between the formulas of specs/ and the model.
 pub mod Closed
 pub mod Columns
-pub mod Moved

@@ -1,5 +1,5 @@
 // The ways of an access: how each moves its bytes between the data store and a register.
-#![tactic(auto)]
+#![tactic(auto, unfolding(crate::specs::Inner::Effect::fetched, crate::specs::Inner::Effect::kept, crate::specs::Inner::Effect::into_r, crate::specs::Inner::Effect::into_v, crate::specs::Inner::Effect::out_of))]
 
 ghost use Rattle.std.specs.Prelude.{◌≡◌, ◌<◌, List, [], ℕ};
 ghost use Rattle.terms.specs.declared.Way.{Way};

@@ -1,6 +1,6 @@
 // The address unit's instructions, each on the lent pieces that it may read or change. Each takes the word, so that only the fields that it
 // uses are cut from it, and hands back what it counts.
-#![tactic(auto)]
+#![tactic(auto, unfolding(crate::specs::Inner::Effect::result_of, crate::specs::Inner::Effect::addressed, crate::specs::Inner::Effect::counted_in))]
 
 ghost use Rattle.std.specs.Prelude.{◌≡◌, ◌<◌, [], slice_set};
 ghost use Rattle.banks.specs.Inner.Access.{cells_of};
@@ -19,6 +19,8 @@ use pieces::Base;
 use terms::{Counted, Half};
 use words::{AccessAdd, Fields, Increment};
 
+// The fields of $a[n].
+#[tactic(auto, unfolding(pieces::specs::Inner::Regs::base_of))]
 fn base_at(a: &[u32; 32], n: usize) -> Base
     requires { n < 32 }
     ensures { (result ≡ base_in a.now n) × (result.stride < 4) }
@@ -26,27 +28,34 @@ fn base_at(a: &[u32; 32], n: usize) -> Base
     pieces::base_of(a[n])
 }
 
+// What is added to addr: the low half of a register, or of the immediate.
+#[tactic(auto, unfolding(crate::specs::Inner::Effect::inc_of))]
 fn increment(inc: Increment, a: &[u32; 32]) -> u16
     requires { BoundedI inc }
     ensures { result ≡ inc_of inc a.now }
 {
     match inc {
-        Increment::Register(n) => base_at(a, n as usize).addr,
+        Increment::Register(n) => (a[n as usize] % 65536) as u16,
         Increment::Immediate(i) => signed::low16(i),
     }
 }
 
-// addr of $a[n] moved on by y, and the end flag: the new addr against the limit, which stays.
+// The end flag: the sum against the limit. (Of ld and st too, which form their address by OR.)
+fn mark_end(b: Base, y: u16, cdst: usize, c: &mut [u32; 4])
+    ensures { c.new ≡ end_at cdst (plus b.addr y) b.limit c.old }
+{
+    pieces::set_end(c, cdst, b.addr.wrapping_add(y), b.limit);
+}
+
+// addr of $a[n] moved on by y, and the end flag.
 fn advance(n: usize, y: u16, cdst: usize, a: &mut [u32; 32], c: &mut [u32; 4])
     requires { n < 32 }
     ensures { (a.new ≡ addr_at n (plus (base_in a.old n).addr y) a.old)
         × (c.new ≡ end_at cdst (plus (base_in a.old n).addr y) (base_in a.old n).limit c.old) }
 {
-    let old = a[n];
-    let new = pieces::moved(old, y);
-    let b = pieces::base_of(new);
-    a[n] = new;
-    pieces::set_end(c, cdst, b.addr, b.limit);
+    let b = pieces::base_of(a[n]);
+    a[n] = pieces::moved(a[n], y);
+    mark_end(b, y, cdst, c);
 }
 
 // $a[n] moved on after the access of ldav., ldas, stav. or stas.
@@ -55,15 +64,7 @@ fn move_on(n: usize, inc: Increment, cdst: usize, a: &mut [u32; 32], c: &mut [u3
     ensures { (a.new ≡ addr_at n (plus (base_in a.old n).addr (inc_of inc a.old)) a.old)
         × (c.new ≡ end_at cdst (plus (base_in a.old n).addr (inc_of inc a.old)) (base_in a.old n).limit c.old) }
 {
-    let y = increment(inc, a);
-    advance(n, y, cdst, a, c);
-}
-
-// The end flag of ld and st: their address is formed by OR, the flag by the sum.
-fn mark_end(b: Base, uimm: u16, cdst: usize, c: &mut [u32; 4])
-    ensures { c.new ≡ end_at cdst (plus b.addr uimm) b.limit c.old }
-{
-    pieces::set_end(c, cdst, b.addr.wrapping_add(uimm), b.limit);
+    advance(n, increment(inc, a), cdst, a, c);
 }
 
 // What an access counts: the cells that it enters.
@@ -121,8 +122,8 @@ pub fn aadd(word: u32, index: u32, a: &mut [u32; 32], c: &mut [u32; 4]) -> Count
         ≡ result_of (aadd_of (fields_of word) index) (five [] a.old [] c.old []) }
 {
     let f = words::cut(word);
-    let y = base_at(a, index as usize);
-    advance(f.dst, y.addr, f.flags, a, c);
+    let y = (a[index as usize] % 65536) as u16;
+    advance(f.dst, y, f.flags, a, c);
     Counted::Nothing
 }
 

@@ -1,7 +1,0 @@
--- `address::add` meets its contract.
-use Rattle.address.specs.Inner.Effect.{result_of, addressed, counted_in}
-use Rattle.address.proofs.add.Goals as goal
-
-pub returns : goal.returns
-unfolding result_of addressed counted_in
-returns c = cc
