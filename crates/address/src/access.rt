@@ -45,10 +45,13 @@ impl Access for Row {
 
     const WAY: Way = Way::Horizontal;
 
+    // With two callers it would stay out of line.
+    #[inline(always)]
     fn load(n: usize, code: usize, x: usize, ds: &[u8; 8192], v: &mut [u8; 512]) {
         pieces::set_vreg(v, n, store::load_row(ds, code, x));
     }
 
+    #[inline(always)]
     fn store(n: usize, code: usize, x: usize, ds: &mut [u8; 8192], v: &[u8; 512]) {
         store::store_row(ds, code, x, pieces::vreg(v, n));
     }
