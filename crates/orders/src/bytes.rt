@@ -1,135 +1,80 @@
 // Bytes and numbers that stand in a line, up to its end.
-ghost use Rattle.std.specs.Prelude.{◌-◌, ◌≤◌, length};
+ghost use Rattle.std.specs.Prelude.{◌-◌, length};
+ghost use Rattle.std.specs.Iterator.{at_most};
 
-use crate::cursor::{fault, is, next, text, whole};
-use crate::{ByteAt, Fault, Wanted};
-use text::digits::Number;
+use crate::cursor::{Cursor, Texts, whole};
+use crate::{Fault, Wanted};
 use text::number::{byte, number};
 
-// What the texts are to be.
+// Bytes that stand in a line, of which there may be as many as the store has.
 #[derive(Clone, Copy)]
-pub enum Item {
-    Byte,
-    Number,
+pub struct Bytes<'a> {
+    texts: Texts<'a>,
 }
 
-#[derive(Clone, Copy)]
-pub enum Counted {
-    Is(usize),
-    Wrong(Fault),
-}
-
-// Where the first of sixteen bytes or numbers stands.
-#[derive(Clone, Copy)]
-pub enum First {
-    At(usize),
-    Wrong(Fault),
-}
-
-fn read(text: &[u8], item: Item) -> Number {
-    match item {
-        Item::Byte => byte(text),
-        Item::Number => number(text),
-    }
-}
-
-fn wanted(item: Item) -> Wanted {
-    match item {
-        Item::Byte => Wanted::Byte,
-        Item::Number => Wanted::Number,
-    }
-}
-
-// How many there are from a place on, if every text is one and there is room for all of them in the store.
-pub fn good(line: &[u8], from: usize, item: Item, room: usize) -> Counted {
-    let mut n = 0;
-    let mut at = from;
-    while at < line.len() {
-        let Number::Is(_) = read(text(line, at), item) else {
-            return Counted::Wrong(fault(line, at, wanted(item)));
-        };
-        if n >= room {
-            return Counted::Wrong(fault(line, at, Wanted::NoByteBeyond));
+impl<'a> Bytes<'a> {
+    // The bytes from a place on, if every text is one, there is one at least, and there is room for all of them in the store.
+    pub(crate) fn up_to(from: Cursor<'a>, room: usize) -> Result<Bytes<'a>, Fault> {
+        if from.is_end() {
+            return Err(from.fault(Wanted::Byte));
         }
-        n += 1;
-        at = next(line, at);
+        for (n, c) in from.texts().enumerate() {
+            c.read(byte, Wanted::Byte)?;
+            if n >= room {
+                return Err(c.fault(Wanted::NoByteBeyond));
+            }
+        }
+        Ok(Bytes {
+            texts: from.texts(),
+        })
     }
-    Counted::Is(n)
 }
 
-// There are no more texts than bytes in a line, so that there is room for all.
-fn count(line: &[u8], from: usize, item: Item) -> Counted {
-    good(line, from, item, line.len())
+impl<'a> Iterator for Bytes<'a> {
+    type Item = u8;
+
+    ghost remaining = { λ s. at_most (length s.texts.rest.line.now - s.texts.rest.at) };
+
+    fn next(&mut self) -> Option<u8> {
+        byte(self.texts.next()?.text())
+    }
 }
 
-fn first_if(line: &[u8], from: usize, right: bool, wanted: Wanted) -> First {
-    if right {
-        return First::At(from);
+// The first sixteen that stand from a place on, if every text up to the line's end is one.
+fn first_sixteen<T: Copy + Default, F: Fn(&[u8]) -> Option<T> + Copy>(
+    from: Cursor,
+    reader: F,
+    wanted: Wanted,
+) -> Result<[T; 16], Fault>
+    requires { F.IsAlwaysCallable reader }
+{
+    let mut items = [T::default(); 16];
+    for (i, c) in from.texts().enumerate() {
+        let item = c.read(reader, wanted)?;
+        if let Some(place) = items.get_mut(i) {
+            *place = item;
+        }
     }
-    First::Wrong(whole(line, wanted))
+    Ok(items)
 }
 
 // Sixteen bytes up to the end of the line, or one for all, before which `all` may stand.
-pub fn sixteen_place(line: &[u8], at: usize) -> First {
-    let all = is(line, at, b"all");
-    let from = if all { next(line, at) } else { at };
-    match count(line, from, Item::Byte) {
-        Counted::Wrong(f) => First::Wrong(f),
-        Counted::Is(n) => first_if(line, from, n == 1 || n == 16 && !all, Wanted::Bytes),
+pub(crate) fn sixteen(c: Cursor) -> Result<[u8; 16], Fault> {
+    let all = c.is(b"all");
+    let from = if all { c.next() } else { c };
+    let bytes = first_sixteen(from, byte, Wanted::Byte)?;
+    match from.texts().count() {
+        1 => Ok([bytes[0]; 16]),
+        16 if !all => Ok(bytes),
+        _ => Err(whole(c.line, Wanted::Bytes)),
     }
 }
 
 // Sixteen numbers up to the end of the line.
-pub fn banks_place(line: &[u8], at: usize) -> First {
-    match count(line, at, Item::Number) {
-        Counted::Wrong(f) => First::Wrong(f),
-        Counted::Is(n) => first_if(line, at, n == 16, Wanted::Numbers),
+pub(crate) fn banks(c: Cursor) -> Result<[u32; 16], Fault> {
+    let numbers = first_sixteen(c, number, Wanted::Number)?;
+    if c.texts().count() != 16 {
+        return Err(whole(c.line, Wanted::Numbers));
     }
-}
-
-// The number of a text that is one.
-fn known(text: &[u8], item: Item) -> u32 {
-    match read(text, item) {
-        Number::Is(n) => n,
-        Number::Nothing => 0,
-    }
-}
-
-fn known_byte(text: &[u8]) -> u8 {
-    (known(text, Item::Byte) % 256) as u8
-}
-
-// The byte that stands at a place of the line, 0 where there is none. Less is left of the line at `next` than at this place, as long as anything is.
-pub fn byte_at(line: &[u8], at: usize) -> ByteAt
-    ensures { length line.now - result.next ≤ length line.now - at - 1 }
-{
-    ByteAt {
-        byte: known_byte(text(line, at)),
-        next: next(line, at),
-    }
-}
-
-// The sixteen bytes that stand in the line from a place on: one is for all.
-pub fn sixteen(line: &[u8], from: usize) -> [u8; 16] {
-    let mut bytes = [0u8; 16];
-    let mut at = from;
-    let alone = next(line, from) >= line.len();
-    for i in 0..16 {
-        bytes[i] = known_byte(text(line, at));
-        if !alone {
-            at = next(line, at);
-        }
-    }
-    bytes
-}
-
-// The sixteen numbers that stand in the line from a place on.
-pub fn banks(line: &[u8], from: usize) -> [u32; 16] {
-    let mut numbers = [0u32; 16];
-    let mut at = from;
-    for i in 0..16 {
-        numbers[i] = known(text(line, at), Item::Number);
-        at = next(line, at);
-    }
-    numbers
+    Ok(numbers)
 }

@@ -2,60 +2,20 @@
 ghost use Rattle.std.specs.Prelude.{◌<◌};
 
 use crate::{Field, Kind, Wanted};
-use text::find::same;
 
-// The part of that name, of whatever register; Whole where there is none.
-fn named(name: &[u8]) -> Field {
-    if same(name, b"addr") {
-        return Field::Addr;
+// The part of that name of a register of a kind, if it has one.
+pub fn field_of(kind: Kind, name: &[u8]) -> Option<Field> {
+    match (kind, name) {
+        (Kind::A, b"addr") => Some(Field::Addr),
+        (Kind::A, b"limit") => Some(Field::Limit),
+        (Kind::A, b"stride") => Some(Field::Stride),
+        (Kind::C, b"sign") => Some(Field::Sign),
+        (Kind::C, b"zero") => Some(Field::Zero),
+        (Kind::C, b"end") => Some(Field::End),
+        (Kind::Vc, b"signs") => Some(Field::Signs),
+        (Kind::Vc, b"zeros") => Some(Field::Zeros),
+        _ => None,
     }
-    if same(name, b"limit") {
-        return Field::Limit;
-    }
-    if same(name, b"stride") {
-        return Field::Stride;
-    }
-    if same(name, b"sign") {
-        return Field::Sign;
-    }
-    if same(name, b"zero") {
-        return Field::Zero;
-    }
-    if same(name, b"end") {
-        return Field::End;
-    }
-    if same(name, b"signs") {
-        return Field::Signs;
-    }
-    if same(name, b"zeros") {
-        return Field::Zeros;
-    }
-    Field::Whole
-}
-
-// Whether the registers of a kind have this part.
-fn belongs(f: Field, kind: Kind) -> bool {
-    match f {
-        Field::Addr | Field::Limit | Field::Stride => match kind {
-            Kind::A => true,
-            _ => false,
-        },
-        Field::Sign | Field::Zero | Field::End => match kind {
-            Kind::C => true,
-            _ => false,
-        },
-        Field::Signs | Field::Zeros => match kind {
-            Kind::Vc => true,
-            _ => false,
-        },
-        Field::Whole => false,
-    }
-}
-
-// The part of that name of a register of a kind; Whole where it has none.
-pub fn field_of(kind: Kind, name: &[u8]) -> Field {
-    let f = named(name);
-    if belongs(f, kind) { f } else { Field::Whole }
 }
 
 // The lowest bit of a part.

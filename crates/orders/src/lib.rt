@@ -14,10 +14,14 @@ mod shown; // shown.rt: what can be shown, and compared
 mod steps; // steps.rt: an instruction and its side inputs
 pub mod tell; // tell.rt: the words of what is wrong
 mod value; // value.rt: numbers and their bounds
+mod wanted; // wanted.rt: what was expected
 pub mod word; // word.rt: the line of a word
 
+use bytes::Bytes;
+pub use wanted::Wanted;
+
 // An instruction word, its side index and its side mask word.
-#[derive(Clone, Copy)]
+#[derive(Clone, Copy, PartialEq, Eq)]
 pub struct Triple {
     pub word: u32,
     pub side: u32,
@@ -25,7 +29,7 @@ pub struct Triple {
 }
 
 // The registers that are words of 32 bits.
-#[derive(Clone, Copy)]
+#[derive(Clone, Copy, PartialEq, Eq)]
 pub enum Kind {
     A,
     R,
@@ -34,7 +38,7 @@ pub enum Kind {
 }
 
 // The parts of these registers that have names; Whole is all bits, which have none.
-#[derive(Clone, Copy)]
+#[derive(Clone, Copy, PartialEq, Eq)]
 pub enum Field {
     Addr,
     Limit,
@@ -48,7 +52,7 @@ pub enum Field {
 }
 
 // Bits of the register n of a kind: those of mask have this value, in their places.
-#[derive(Clone, Copy)]
+#[derive(Clone, Copy, PartialEq, Eq)]
 pub struct Part {
     pub kind: Kind,
     pub n: usize,
@@ -57,7 +61,7 @@ pub struct Part {
 }
 
 // What can be shown: a register, or bytes of the store. Row and Column have the stride code, 0 to 3, and the address; Cells the bank and the first cell.
-#[derive(Clone, Copy)]
+#[derive(Clone, Copy, PartialEq, Eq)]
 pub enum Subject {
     Word(Kind, usize),
     Vector(usize),
@@ -67,96 +71,36 @@ pub enum Subject {
     Cells(usize, usize),
 }
 
-// What a line of a listing asks for. SetVector has the register, and where in the line the first of its bytes stands, for `bytes::sixteen`; Bytes has
-// the stride code, the first address, and where in the line the first of its bytes stands, for `bytes::byte_at`. The bytes are good.
+// What a line of a listing asks for. SetVector has the register and its bytes; Bytes the stride code, the first address, and the bytes.
 #[derive(Clone, Copy)]
-pub enum Order {
-    Nothing,
+pub enum Order<'a> {
     Step(Triple),
     Set(Part),
-    SetVector(usize, usize),
-    Bytes(usize, usize, usize),
+    SetVector(usize, [u8; 16]),
+    Bytes(usize, usize, Bytes<'a>),
     FillBank,
     FillAddress(usize),
     FillByte(u8),
     Show(Subject),
     Budget(u32),
-    Wrong(Fault),
 }
 
-// What a line that is compared expects. Sixteen and Banks have the place in the line of the first byte or number, for `bytes::sixteen` and
-// `bytes::banks`; all are good.
+// What a line that is compared expects.
 #[derive(Clone, Copy)]
 pub enum Expected {
-    Nothing,
     Part(Part),
-    Sixteen(Subject, usize),
+    Sixteen(Subject, [u8; 16]),
     Answer(u32),
     Steps(u32),
     Cells(u32),
     Clipped(u32),
-    Banks(usize),
-    Wrong(Fault),
+    Banks([u32; 16]),
 }
 
 // Where in the line something is wrong, and what was expected.
-#[derive(Clone, Copy)]
+#[derive(Clone, Copy, PartialEq, Eq)]
 pub struct Fault {
     pub from: usize,
     pub to: usize,
     pub wanted: Wanted,
-}
-
-// What was expected: a message of the page for each.
-#[derive(Clone, Copy)]
-pub enum Wanted {
-    Dot,
-    StartDot,
-    BeforeStep,
-    BeforeCompared,
-    End,
-    Register,
-    WordOfA,
-    WordOfR,
-    WordOfC,
-    WordOfVc,
-    Sixteen,
-    Fourteen,
-    Bit,
-    Stride,
-    Address,
-    Byte,
-    Bytes,
-    BytesForm,
-    NoByteBeyond,
-    Fill,
-    FillForm,
-    Shown,
-    RowForm,
-    Bank,
-    Cell,
-    CellForm,
-    Shows,
-    Number,
-    Numbers,
-    Compared,
-    Name,
-    Operands,
-    Side,
-    Mask,
-    Steps,
-}
-
-// A byte of a line, and the place of the text behind it.
-#[derive(Clone, Copy)]
-pub struct ByteAt {
-    pub byte: u8,
-    pub next: usize,
-}
-
-// What the word's line is: its length with its line feed, 0 where the word is refused by the answer.
-#[derive(Clone, Copy)]
-pub struct Spelt {
-    pub answer: u32,
-    pub length: usize,
 }

@@ -1,16 +1,9 @@
 // What a register of 32 bits holds: a whole word, or parts of it with their names and values.
-use crate::cursor::{fault, next, text};
+use crate::cursor::Cursor;
 use crate::fields::{field_of, most, placed, value_of};
-use crate::value::{Value, stride, up_to};
+use crate::value::{stride, up_to};
 use crate::{Fault, Field, Kind, Part, Wanted};
-use text::digits::Number;
 use text::number::number;
-
-#[derive(Clone, Copy)]
-pub enum Held {
-    Is(Part),
-    Wrong(Fault),
-}
 
 // Bits of a word, in their places: those of mask have this value.
 #[derive(Clone, Copy)]
@@ -19,10 +12,14 @@ struct Bits {
     value: u32,
 }
 
-#[derive(Clone, Copy)]
-enum One {
-    Is(Bits),
-    Wrong(Fault),
+impl Bits {
+    // With others, which hold where both have a bit.
+    fn with(self, later: Bits) -> Bits {
+        Bits {
+            mask: self.mask | later.mask,
+            value: self.value & !later.mask | later.value,
+        }
+    }
 }
 
 // What is expected where neither a word nor a part's name stands.
@@ -36,71 +33,54 @@ fn word_of(kind: Kind) -> Wanted {
 }
 
 // A part's value: of a stride its code is held.
-fn value_at(line: &[u8], at: usize, f: Field) -> Value {
-    match f {
-        Field::Stride => stride(line, at),
-        _ => up_to(line, at, most(f), value_of(f)),
+fn value_at(c: Cursor, f: Field) -> Result<u32, Fault> {
+    if f == Field::Stride {
+        return stride(c);
     }
+    up_to(c, most(f), value_of(f))
 }
 
 // The part whose name stands at a place, with its value.
-fn part_at(line: &[u8], at: usize, kind: Kind) -> One {
-    let f = field_of(kind, text(line, at));
-    if let Field::Whole = f {
-        return One::Wrong(fault(line, at, word_of(kind)));
-    }
-    match value_at(line, next(line, at), f) {
-        Value::Wrong(w) => One::Wrong(w),
-        Value::Is(n) => One::Is(Bits {
-            mask: placed(f, most(f)),
-            value: placed(f, n),
-        }),
-    }
+fn part_at(name: Cursor, kind: Kind) -> Result<Bits, Fault> {
+    let f = name.read(|text| field_of(kind, text), word_of(kind))?;
+    let n = value_at(name.next(), f)?;
+    Ok(Bits {
+        mask: placed(f, most(f)),
+        value: placed(f, n),
+    })
 }
 
-// The bits with others, which hold where both have a bit.
-fn with(bits: Bits, later: Bits) -> Bits {
-    Bits {
-        mask: bits.mask | later.mask,
-        value: bits.value & (later.mask ^ 0xffffffff) | later.value,
-    }
-}
-
-// Parts up to the end of the line; there is one at least.
-fn parts(line: &[u8], from: usize, kind: Kind, n: usize) -> Held {
+// Parts up to the end of the line, each of two texts; there is one at least.
+fn parts(from: Cursor, kind: Kind) -> Result<Bits, Fault> {
     let mut bits = Bits { mask: 0, value: 0 };
-    let mut at = from;
-    while at < line.len() {
-        match part_at(line, at, kind) {
-            One::Wrong(f) => return Held::Wrong(f),
-            One::Is(later) => bits = with(bits, later),
-        }
-        at = next(line, next(line, at));
+    for name in from.texts().step_by(2) {
+        bits = bits.with(part_at(name, kind)?);
     }
     if bits.mask == 0 {
-        return Held::Wrong(fault(line, from, word_of(kind)));
+        return Err(from.fault(word_of(kind)));
     }
-    Held::Is(Part {
-        kind: kind,
-        n: n,
-        mask: bits.mask,
-        value: bits.value,
+    Ok(bits)
+}
+
+// A word, behind which nothing stands, or parts of one.
+fn bits_from(c: Cursor, kind: Kind) -> Result<Bits, Fault> {
+    let Some(value) = number(c.text()) else {
+        return parts(c, kind);
+    };
+    c.next().ended()?;
+    Ok(Bits {
+        mask: 0xffffffff,
+        value,
     })
 }
 
 // What stands behind the register n of a kind, up to the end of the line.
-pub fn held_from(line: &[u8], at: usize, kind: Kind, n: usize) -> Held {
-    let Number::Is(word) = number(text(line, at)) else {
-        return parts(line, at, kind, n);
-    };
-    let behind = next(line, at);
-    if behind < line.len() {
-        return Held::Wrong(fault(line, behind, Wanted::End));
-    }
-    Held::Is(Part {
-        kind: kind,
-        n: n,
-        mask: 0xffffffff,
-        value: word,
+pub(crate) fn held(c: Cursor, kind: Kind, n: usize) -> Result<Part, Fault> {
+    let Bits { mask, value } = bits_from(c, kind)?;
+    Ok(Part {
+        kind,
+        n,
+        mask,
+        value,
     })
 }

@@ -1,70 +1,36 @@
 // Which register a text is, as in lines of names: `$a3`, and not `$a03` or `$A3`.
-ghost use Rattle.std.specs.Prelude.{◌≤◌, length};
-
 use crate::Kind;
-use text::digits::Number;
 use text::number::number;
 
 #[derive(Clone, Copy)]
-pub enum Register {
+pub(crate) enum Register {
     Word(Kind, usize),
     Vector(usize),
-    Nothing,
 }
 
-// The number of the text from a place on, below a bound: one digit, or two of which the first is not 0.
-fn numbered(text: &[u8], from: usize, below: u32) -> Number
-    requires { from ≤ length text.now }
-{
-    if text.len() - from > 2 {
-        return Number::Nothing;
-    }
-    if text.len() - from == 2 && text[from] == b'0' {
-        return Number::Nothing;
-    }
-    let Number::Is(n) = number(&text[from..]) else {
-        return Number::Nothing;
-    };
-    if n < below {
-        return Number::Is(n);
-    }
-    Number::Nothing
-}
-
-// A register of a kind, of which there are so many.
-fn word(kind: Kind, text: &[u8], from: usize, count: u32) -> Register
-    requires { from ≤ length text.now }
-{
-    match numbered(text, from, count) {
-        Number::Is(n) => Register::Word(kind, n as usize),
-        Number::Nothing => Register::Nothing,
+// A register's number, of which there are so many: one digit, or two of which the first is not 0.
+fn numbered(digits: &[u8], count: u32) -> Option<usize> {
+    match digits {
+        [_] | [b'1'..=b'9', _] => {
+            let n = number(digits)?;
+            (n < count).then_some(n as usize)
+        }
+        _ => None,
     }
 }
 
-fn vector(text: &[u8]) -> Register
-    requires { 3 ≤ length text.now }
-{
-    if text[2] == b'c' {
-        return word(Kind::Vc, text, 3, 4);
-    }
-    match numbered(text, 2, 32) {
-        Number::Is(n) => Register::Vector(n as usize),
-        Number::Nothing => Register::Nothing,
-    }
+fn word(kind: Kind, digits: &[u8], count: u32) -> Option<Register> {
+    let n = numbered(digits, count)?;
+    Some(Register::Word(kind, n))
 }
 
-pub fn register_of(text: &[u8]) -> Register {
-    if text.len() < 3 {
-        return Register::Nothing;
-    }
-    if text[0] != b'$' {
-        return Register::Nothing;
-    }
-    match text[1] {
-        b'a' => word(Kind::A, text, 2, 32),
-        b'r' => word(Kind::R, text, 2, 32),
-        b'c' => word(Kind::C, text, 2, 4),
-        b'v' => vector(text),
-        _ => Register::Nothing,
+pub(crate) fn register_of(text: &[u8]) -> Option<Register> {
+    match text {
+        [b'$', b'a', digits @ ..] => word(Kind::A, digits, 32),
+        [b'$', b'r', digits @ ..] => word(Kind::R, digits, 32),
+        [b'$', b'c', digits @ ..] => word(Kind::C, digits, 4),
+        [b'$', b'v', b'c', digits @ ..] => word(Kind::Vc, digits, 4),
+        [b'$', b'v', digits @ ..] => numbered(digits, 32).map(Register::Vector),
+        _ => None,
     }
 }

@@ -1,74 +1,47 @@
-// What can be shown, and compared: a register, a row, a column, a bank or eight cells of one.
-use crate::cursor::{is, next, text};
+// What can be shown, and compared: a register, a row, a column, a bank or eight cells of one. Each comes with the text behind it.
+use crate::cursor::Cursor;
 use crate::register::{Register, register_of};
-use crate::value::{Value, address, strided, up_to};
+use crate::value::{address, strided, up_to};
 use crate::{Fault, Subject, Wanted};
 
-// What stands at a place, and the place behind it.
-#[derive(Clone, Copy)]
-pub enum Sought {
-    Is(Subject, usize),
-    Nothing,
-    Wrong(Fault),
-}
-
 // Behind `row` or `column`.
-fn lane(line: &[u8], at: usize, down: bool) -> Sought {
-    let a = match address(line, at) {
-        Value::Is(n) => n as usize,
-        Value::Wrong(f) => return Sought::Wrong(f),
-    };
-    let form = next(line, at);
-    let code = match strided(line, form, Wanted::RowForm) {
-        Value::Is(n) => n as usize,
-        Value::Wrong(f) => return Sought::Wrong(f),
-    };
-    let behind = next(line, next(line, form));
-    if down {
-        return Sought::Is(Subject::Column(code, a), behind);
-    }
-    Sought::Is(Subject::Row(code, a), behind)
-}
-
-// Behind `cell`.
-fn cells(line: &[u8], at: usize, bank: usize) -> Sought {
-    match up_to(line, at, 248, Wanted::Cell) {
-        Value::Is(n) => Sought::Is(Subject::Cells(bank, n as usize), next(line, at)),
-        Value::Wrong(f) => Sought::Wrong(f),
-    }
+fn lane<'a, F: FnOnce(usize, usize) -> Subject>(
+    c: Cursor<'a>,
+    way: F,
+) -> Result<(Subject, Cursor<'a>), Fault>
+    requires { F.IsAlwaysCallable way }
+{
+    let a = address(c)?;
+    let (code, behind) = strided(c.next(), Wanted::RowForm)?;
+    Ok((way(code, a), behind))
 }
 
 // Behind `bank`.
-fn bank(line: &[u8], at: usize) -> Sought {
-    let n = match up_to(line, at, 15, Wanted::Bank) {
-        Value::Is(n) => n as usize,
-        Value::Wrong(f) => return Sought::Wrong(f),
-    };
-    let behind = next(line, at);
-    if is(line, behind, b"cell") {
-        return cells(line, next(line, behind), n);
+fn bank(c: Cursor<'_>) -> Result<(Subject, Cursor<'_>), Fault> {
+    let n = up_to(c, 15, Wanted::Bank)? as usize;
+    let behind = c.next();
+    if !behind.is(b"cell") {
+        return Ok((Subject::Bank(n), behind));
     }
-    Sought::Is(Subject::Bank(n), behind)
+    let cell = behind.next();
+    let first = up_to(cell, 248, Wanted::Cell)? as usize;
+    Ok((Subject::Cells(n, first), cell.next()))
 }
 
-fn store(line: &[u8], at: usize) -> Sought {
-    let behind = next(line, at);
-    if is(line, at, b"row") {
-        return lane(line, behind, false);
+fn store(c: Cursor<'_>) -> Result<Option<(Subject, Cursor<'_>)>, Fault> {
+    match c.text() {
+        b"row" => lane(c.next(), Subject::Row).map(Some),
+        b"column" => lane(c.next(), Subject::Column).map(Some),
+        b"bank" => bank(c.next()).map(Some),
+        _ => Ok(None),
     }
-    if is(line, at, b"column") {
-        return lane(line, behind, true);
-    }
-    if is(line, at, b"bank") {
-        return bank(line, behind);
-    }
-    Sought::Nothing
 }
 
-pub fn subject(line: &[u8], at: usize) -> Sought {
-    match register_of(text(line, at)) {
-        Register::Word(kind, n) => Sought::Is(Subject::Word(kind, n), next(line, at)),
-        Register::Vector(n) => Sought::Is(Subject::Vector(n), next(line, at)),
-        Register::Nothing => store(line, at),
+// What begins at a place, if it is one of them.
+pub(crate) fn subject(c: Cursor<'_>) -> Result<Option<(Subject, Cursor<'_>)>, Fault> {
+    match register_of(c.text()) {
+        Some(Register::Word(kind, n)) => Ok(Some((Subject::Word(kind, n), c.next()))),
+        Some(Register::Vector(n)) => Ok(Some((Subject::Vector(n), c.next()))),
+        None => store(c),
     }
 }

@@ -1,68 +1,46 @@
 // Numbers in a line, each with the bound that its place sets.
-use crate::cursor::{fault, is, next, text};
+use crate::cursor::Cursor;
 use crate::{Fault, Wanted};
-use text::digits::Number;
 use text::number::number;
 
-#[derive(Clone, Copy)]
-pub enum Value {
-    Is(u32),
-    Wrong(Fault),
-}
-
 // A number up to a bound.
-pub fn up_to(line: &[u8], at: usize, most: u32, wanted: Wanted) -> Value {
-    let Number::Is(n) = number(text(line, at)) else {
-        return Value::Wrong(fault(line, at, wanted));
-    };
-    if n > most {
-        return Value::Wrong(fault(line, at, wanted));
-    }
-    Value::Is(n)
+pub(crate) fn up_to(c: Cursor, most: u32, wanted: Wanted) -> Result<u32, Fault> {
+    c.read(|text| number(text).filter(|n| *n <= most), wanted)
 }
 
 // Any number.
-pub fn any(line: &[u8], at: usize, wanted: Wanted) -> Value {
-    up_to(line, at, 0xffffffff, wanted)
+pub(crate) fn any(c: Cursor, wanted: Wanted) -> Result<u32, Fault> {
+    c.read(number, wanted)
 }
 
-pub fn address(line: &[u8], at: usize) -> Value {
-    up_to(line, at, 0x1fff, Wanted::Address)
+pub(crate) fn address(c: Cursor) -> Result<usize, Fault> {
+    let a = up_to(c, 0x1fff, Wanted::Address)?;
+    Ok(a as usize)
 }
 
 // The code of a stride, 0 to 3.
-pub fn stride(line: &[u8], at: usize) -> Value {
-    let n = match any(line, at, Wanted::Stride) {
-        Value::Is(n) => n,
-        Value::Wrong(f) => return Value::Wrong(f),
-    };
-    match n {
-        0x10 => Value::Is(0),
-        0x20 => Value::Is(1),
-        0x40 => Value::Is(2),
-        0x80 => Value::Is(3),
-        _ => Value::Wrong(fault(line, at, Wanted::Stride)),
+pub(crate) fn stride(c: Cursor) -> Result<u32, Fault> {
+    match any(c, Wanted::Stride)? {
+        0x10 => Ok(0),
+        0x20 => Ok(1),
+        0x40 => Ok(2),
+        0x80 => Ok(3),
+        _ => Err(c.fault(Wanted::Stride)),
     }
 }
 
-// The same behind the text `stride`, without which a form is expected.
-pub fn strided(line: &[u8], at: usize, form: Wanted) -> Value {
-    if !is(line, at, b"stride") {
-        return Value::Wrong(fault(line, at, form));
+// The same behind the text `stride`, without which a form is expected, and what comes behind it.
+pub(crate) fn strided<'a>(c: Cursor<'a>, form: Wanted) -> Result<(usize, Cursor<'a>), Fault> {
+    if !c.is(b"stride") {
+        return Err(c.fault(form));
     }
-    stride(line, next(line, at))
+    let code = stride(c.next())?;
+    Ok((code as usize, c.next().next()))
 }
 
-// The number behind the first text of the line, which is all that stands there.
-pub fn only(line: &[u8]) -> Value {
-    let at = next(line, 0);
-    let n = match any(line, at, Wanted::Number) {
-        Value::Is(n) => n,
-        Value::Wrong(f) => return Value::Wrong(f),
-    };
-    let behind = next(line, at);
-    if behind < line.len() {
-        return Value::Wrong(fault(line, behind, Wanted::End));
-    }
-    Value::Is(n)
+// A number that is all that stands there.
+pub(crate) fn only(c: Cursor) -> Result<u32, Fault> {
+    let n = any(c, Wanted::Number)?;
+    c.next().ended()?;
+    Ok(n)
 }

@@ -1,17 +1,17 @@
 // The line of a word.
+ghost use Rattle.std.specs.Prelude.{IfOk};
 ghost use Rattle.text.specs.Counts.{IsPrefixLen};
 
-use crate::Spelt;
+use terms::End;
 use text::count::at_most;
 
-// The line of a word, with its line feed. 64 bytes are room enough for any.
-pub fn spell(word: u32, out: &mut [u8]) -> Spelt
-    ensures { IsPrefixLen result.length out.new }
+// Puts the line of a word, with its line feed, at the start of out, and answers its length, or why the word has none. 64 bytes are room enough for any.
+pub fn spell(word: u32, out: &mut [u8]) -> Result<usize, End>
+    ensures { IfOk result (λ n. IsPrefixLen n out.new) }
 {
-    let w = names::write_line(word, out);
-    let end = w.end;
-    Spelt {
-        answer: terms::number(end),
-        length: at_most(w.length as usize, out),
+    let written = names::write_line(word, out);
+    match written.end {
+        End::Done => Ok(at_most(written.length as usize, out)),
+        refused => Err(refused),
     }
 }

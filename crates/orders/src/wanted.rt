@@ -1,0 +1,86 @@
+// What was expected where a line is not as it should be: a message of the page for each.
+use std::fmt;
+
+#[derive(Clone, Copy, PartialEq, Eq)]
+pub enum Wanted {
+    Dot,
+    StartDot,
+    BeforeStep,
+    BeforeCompared,
+    End,
+    Register,
+    WordOfA,
+    WordOfR,
+    WordOfC,
+    WordOfVc,
+    Sixteen,
+    Fourteen,
+    Bit,
+    Stride,
+    Address,
+    Byte,
+    Bytes,
+    BytesForm,
+    NoByteBeyond,
+    Fill,
+    FillForm,
+    Shown,
+    RowForm,
+    Bank,
+    Cell,
+    CellForm,
+    Shows,
+    Number,
+    Numbers,
+    Compared,
+    Name,
+    Operands,
+    Side,
+    Mask,
+    Steps,
+}
+
+// The words of docs/LISTING.md. (Of an instruction's operands `tell` shows examples instead.)
+impl fmt::Display for Wanted {
+    fn fmt<W: fmt::Write>(&self, f: &mut fmt::Formatter<W>) -> fmt::Result {
+        f.write_str(match self {
+            Wanted::Dot => ".set, .bytes, .fill, .show or .budget",
+            Wanted::StartDot => ".set, .bytes, .fill or .budget",
+            Wanted::BeforeStep => "before the first step",
+            Wanted::BeforeCompared => "before the first line to compare",
+            Wanted::End => "the end of the line",
+            Wanted::Register =>
+                "a register: $a0 to $a31, $r0 to $r31, $v0 to $v31, $c0 to $c3 or $vc0 to $vc3",
+            Wanted::WordOfA => "a word, or addr, limit, stride and their values",
+            Wanted::WordOfR => "a word",
+            Wanted::WordOfC => "a word, or sign, zero, end and their values",
+            Wanted::WordOfVc => "a word, or signs, zeros and their values",
+            Wanted::Sixteen => "a number up to 0xffff",
+            Wanted::Fourteen => "a number up to 0x3fff",
+            Wanted::Bit => "0 or 1",
+            Wanted::Stride => "a stride: 0x10, 0x20, 0x40 or 0x80",
+            Wanted::Address => "an address: a number up to 0x1fff",
+            Wanted::Byte => "a byte: two hexadecimal digits",
+            Wanted::Bytes => "16 bytes, or one for all",
+            Wanted::BytesForm => "as in: .bytes stride 0x20 at 0x100 00 01 02",
+            Wanted::NoByteBeyond => "no byte beyond address 0x1fff",
+            Wanted::Fill => "bank, address or a byte",
+            Wanted::FillForm => "as in: .fill address stride 0x40",
+            Wanted::Shown => "a register, row, column or bank",
+            Wanted::RowForm => "as in: row 0x40 stride 0x20",
+            Wanted::Bank => "a bank: 0 to 15",
+            Wanted::Cell => "a cell: 0 to 248",
+            Wanted::CellForm => "as in: bank 3 cell 16",
+            Wanted::Shows => "at most 64 .show lines",
+            Wanted::Number => "a number",
+            Wanted::Numbers => "16 numbers",
+            Wanted::Compared =>
+                "a register, row, column, bank, answer, steps, cells, clipped, banks or a dot line",
+            Wanted::Name => "the name of an instruction, or a word of eight hexadecimal digits",
+            Wanted::Operands => "operands",
+            Wanted::Side => "a side index: a number",
+            Wanted::Mask => "a side mask word: a number",
+            Wanted::Steps => "at most 1024 steps",
+        })
+    }
+}
