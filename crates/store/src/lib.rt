@@ -14,10 +14,9 @@ use terms::Way;
 
 // ---- rows: a line's byte in each of the sixteen banks, from one bank on round
 
-// In the order of the banks, twice, so that a row lies in one piece wherever it begins. (Of an array behind a reference the proof does not
-// know the length by itself.)
-fn banked(ds: &[u8], line: usize, w: &mut [u8; 32])
-    requires { (length ds.now ≡ 8192) × (line < 512) × (length w.old ≡ 32) }
+// In the order of the banks, twice, so that a row lies in one piece wherever it begins.
+fn banked(ds: &[u8; 8192], line: usize, w: &mut [u8; 32])
+    requires { line < 512 }
     ensures { w.new ≡ loaded ds.now (upto (in_bank line) 32) }
 {
     for k in 0..16 {
@@ -38,8 +37,8 @@ fn part(w: &[u8; 32], first: usize) -> [u8; 16]
     x
 }
 
-pub fn load_row(ds: &[u8], code: usize, addr: usize) -> [u8; 16]
-    requires { (length ds.now ≡ 8192) × (code < 4) }
+pub fn load_row(ds: &[u8; 8192], code: usize, addr: usize) -> [u8; 16]
+    requires { code < 4 }
     ensures { result ≡ loaded ds.now (places code (addresses Horizontal code addr)) }
 {
     let start = banks::start(Way::Horizontal, code, addr);
@@ -50,7 +49,6 @@ pub fn load_row(ds: &[u8], code: usize, addr: usize) -> [u8; 16]
 
 // The same of a row that is to be stored.
 fn doubled(x: [u8; 16], w: &mut [u8; 32])
-    requires { length w.old ≡ 32 }
     ensures { w.new ≡ loaded x (upto (λ i. i % 16) 32) }
 {
     for i in 0..16 {
@@ -61,8 +59,8 @@ fn doubled(x: [u8; 16], w: &mut [u8; 32])
 }
 
 // Bank by bank, which is not the row's order: each byte has its own bank, so the order does not matter.
-fn to_banks(ds: &mut [u8], line: usize, w: &[u8; 32], first: usize)
-    requires { (length ds.old ≡ 8192) × (line < 512) × (first ≤ 16) }
+fn to_banks(ds: &mut [u8; 8192], line: usize, w: &[u8; 32], first: usize)
+    requires { (line < 512) × (first ≤ 16) }
     ensures { ds.new ≡ stored ds.old (upto (in_bank line) 16) (drop first w.now) }
 {
     for k in 0..16 {
@@ -70,8 +68,8 @@ fn to_banks(ds: &mut [u8], line: usize, w: &[u8; 32], first: usize)
     }
 }
 
-pub fn store_row(ds: &mut [u8], code: usize, addr: usize, bytes: [u8; 16])
-    requires { (length ds.old ≡ 8192) × (code < 4) }
+pub fn store_row(ds: &mut [u8; 8192], code: usize, addr: usize, bytes: [u8; 16])
+    requires { code < 4 }
     ensures { ds.new ≡ stored ds.old (places code (addresses Horizontal code addr)) bytes }
 {
     let start = banks::start(Way::Horizontal, code, addr);
@@ -100,8 +98,8 @@ fn column_step(code: usize) -> usize
 
 // Round the store by its last index, as a mask: with the literal 8191 the compiler would keep the sum unmasked, and mask a copy of it for each byte.
 // (Where the step is a constant, as in pairs, that costs nothing.)
-fn gather(ds: &[u8], first: usize, step: usize, out: &mut [u8])
-    requires { (length ds.now ≡ 8192) × (length out.old ≡ 16) × (first < 8192) × (step < 8192) }
+fn gather(ds: &[u8; 8192], first: usize, step: usize, out: &mut [u8])
+    requires { (length out.old ≡ 16) × (first < 8192) × (step < 8192) }
     ensures { out.new ≡ loaded ds.now (upto (stepped first step) 16) }
 {
     let last = ds.len() - 1;
@@ -113,8 +111,8 @@ fn gather(ds: &[u8], first: usize, step: usize, out: &mut [u8])
 }
 
 // Code 0: the halves of a cell lie side by side.
-fn gather_pairs(ds: &[u8], first: usize, out: &mut [u8])
-    requires { (length ds.now ≡ 8192) × (length out.old ≡ 16) × (first < 8192) × (first % 2 ≡ 0) }
+fn gather_pairs(ds: &[u8; 8192], first: usize, out: &mut [u8])
+    requires { (length out.old ≡ 16) × (first < 8192) × (first % 2 ≡ 0) }
     ensures { out.new ≡ loaded ds.now (upto (paired first) 16) }
 {
     let mut at = first;
@@ -127,8 +125,8 @@ fn gather_pairs(ds: &[u8], first: usize, out: &mut [u8])
     }
 }
 
-pub fn load_column(ds: &[u8], code: usize, addr: usize, out: &mut [u8])
-    requires { (length ds.now ≡ 8192) × (length out.old ≡ 16) × (code < 4) }
+pub fn load_column(ds: &[u8; 8192], code: usize, addr: usize, out: &mut [u8])
+    requires { (length out.old ≡ 16) × (code < 4) }
     ensures { out.new ≡ loaded ds.now (places code (addresses Vertical code addr)) }
 {
     let first = column_head(code, addr);
@@ -139,8 +137,8 @@ pub fn load_column(ds: &[u8], code: usize, addr: usize, out: &mut [u8])
     }
 }
 
-fn scatter(ds: &mut [u8], first: usize, step: usize, bytes: &[u8])
-    requires { (length ds.old ≡ 8192) × (length bytes.now ≡ 16) × (first < 8192) × (step < 8192) }
+fn scatter(ds: &mut [u8; 8192], first: usize, step: usize, bytes: &[u8; 16])
+    requires { (first < 8192) × (step < 8192) }
     ensures { ds.new ≡ stored ds.old (upto (stepped first step) 16) bytes.now }
 {
     let last = ds.len() - 1;
@@ -151,8 +149,8 @@ fn scatter(ds: &mut [u8], first: usize, step: usize, bytes: &[u8])
     }
 }
 
-fn scatter_pairs(ds: &mut [u8], first: usize, bytes: &[u8])
-    requires { (length ds.old ≡ 8192) × (length bytes.now ≡ 16) × (first < 8192) × (first % 2 ≡ 0) }
+fn scatter_pairs(ds: &mut [u8; 8192], first: usize, bytes: &[u8; 16])
+    requires { (first < 8192) × (first % 2 ≡ 0) }
     ensures { ds.new ≡ stored ds.old (upto (paired first) 16) bytes.now }
 {
     let mut at = first;
@@ -165,8 +163,8 @@ fn scatter_pairs(ds: &mut [u8], first: usize, bytes: &[u8])
     }
 }
 
-pub fn store_column(ds: &mut [u8], code: usize, addr: usize, bytes: &[u8])
-    requires { (length ds.old ≡ 8192) × (length bytes.now ≡ 16) × (code < 4) }
+pub fn store_column(ds: &mut [u8; 8192], code: usize, addr: usize, bytes: &[u8; 16])
+    requires { code < 4 }
     ensures { ds.new ≡ stored ds.old (places code (addresses Vertical code addr)) bytes.now }
 {
     let first = column_head(code, addr);
@@ -179,22 +177,17 @@ pub fn store_column(ds: &mut [u8], code: usize, addr: usize, bytes: &[u8])
 
 // ---- words: a line's byte in each of four banks, from one bank on round
 
-fn wide(x: u8) -> u32
-    ensures { (result ≡ x) × (result < 256) }
-{
-    x as u32
-}
-
 // A word from its bytes, low first.
+#[tactic(auto, unfolding(crate::specs::Inner::Loads::word_of))]
 pub fn joined(b0: u8, b1: u8, b2: u8, b3: u8) -> u32
     ensures { result ≡ word_of (b0 ∷ b1 ∷ b2 ∷ b3 ∷ []) }
 {
-    wide(b0) + (wide(b1) + (wide(b2) + wide(b3) * 256) * 256) * 256
+    u32::from_le_bytes([b0, b1, b2, b3])
 }
 
 // The line is added after the banks have come round, so that the compiler adds it once, to the store's address.
-fn word_from(ds: &[u8], line: usize, first: usize) -> u32
-    requires { (length ds.now ≡ 8192) × (line < 512) × (first < 16) }
+fn word_from(ds: &[u8; 8192], line: usize, first: usize) -> u32
+    requires { (line < 512) × (first < 16) }
     ensures { result ≡ word_of (loaded ds.now (upto (λ i. in_bank line (first + i)) 4)) }
 {
     let at = 512 * first;
@@ -206,27 +199,28 @@ fn word_from(ds: &[u8], line: usize, first: usize) -> u32
     )
 }
 
-pub fn load_word(ds: &[u8], code: usize, addr: usize) -> u32
-    requires { (length ds.now ≡ 8192) × (code < 4) }
+pub fn load_word(ds: &[u8; 8192], code: usize, addr: usize) -> u32
+    requires { code < 4 }
     ensures { result ≡ word_of (loaded ds.now (places code (addresses Scalar code addr))) }
 {
     let start = banks::start(Way::Scalar, code, addr);
     word_from(ds, start / 16, banks::bank(code, start))
 }
 
-fn word_to(ds: &mut [u8], line: usize, first: usize, word: u32)
-    requires { (length ds.old ≡ 8192) × (line < 512) × (first < 16) }
+fn word_to(ds: &mut [u8; 8192], line: usize, first: usize, word: u32)
+    requires { (line < 512) × (first < 16) }
     ensures { ds.new ≡ stored ds.old (upto (λ i. in_bank line (first + i)) 4) (bytes_of word) }
 {
     let at = 512 * first;
-    ds[line + at] = (word % 256) as u8;
-    ds[line + (at + 512) % 8192] = (word / 256 % 256) as u8;
-    ds[line + (at + 1024) % 8192] = (word / 65536 % 256) as u8;
-    ds[line + (at + 1536) % 8192] = (word / 16777216 % 256) as u8;
+    let [b0, b1, b2, b3] = word.to_le_bytes();
+    ds[line + at] = b0;
+    ds[line + (at + 512) % 8192] = b1;
+    ds[line + (at + 1024) % 8192] = b2;
+    ds[line + (at + 1536) % 8192] = b3;
 }
 
-pub fn store_word(ds: &mut [u8], code: usize, addr: usize, word: u32)
-    requires { (length ds.old ≡ 8192) × (code < 4) }
+pub fn store_word(ds: &mut [u8; 8192], code: usize, addr: usize, word: u32)
+    requires { code < 4 }
     ensures { ds.new ≡ stored ds.old (places code (addresses Scalar code addr)) (bytes_of word) }
 {
     let start = banks::start(Way::Scalar, code, addr);

@@ -5,12 +5,7 @@ use Rattle.store.proofs.Access.{column_places, paired_places, paired_even}
 use Rattle.store.proofs.load_column.Goals as goal
 
 pub gather_pairs-requires : goal.gather_pairs-requires
-gather_pairs-requires c = (
-  search rules,
-  search rules,
-  search rules,
-  paired_even _ _ _ c.if-code-eq0.true c.column_head-first.ensures.0,
-)
+gather_pairs-requires c = (search rules, search rules, paired_even _ _ _ c.if-code-eq0.true c.column_head-first.ensures.0)
 
 pub returns-then-code-eq0 : goal.returns-then-code-eq0
 returns-then-code-eq0 c =

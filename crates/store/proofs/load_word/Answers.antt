@@ -9,7 +9,7 @@ pub bank-requires : goal.bank-requires
 bank-requires c = (search rules, start_within Scalar _ _ _ c.start-start.ensures)
 
 pub word_from-requires : goal.word_from-requires
-word_from-requires c = (search rules, line_within Scalar _ _ _ c.start-start.ensures, bank_within _ _ _ c.bank.ensures)
+word_from-requires c = (line_within Scalar _ _ _ c.start-start.ensures, bank_within _ _ _ c.bank.ensures)
 
 pub returns : goal.returns
 returns c =

@@ -5,12 +5,7 @@ use Rattle.store.proofs.Access.{column_places, paired_places, paired_even}
 use Rattle.store.proofs.store_column.Goals as goal
 
 pub scatter_pairs-requires : goal.scatter_pairs-requires
-scatter_pairs-requires c = (
-  search rules,
-  search rules,
-  search rules,
-  paired_even _ _ _ c.if-code-eq0.true c.column_head-first.ensures.0,
-)
+scatter_pairs-requires c = (search rules, paired_even _ _ _ c.if-code-eq0.true c.column_head-first.ensures.0)
 
 pub returns-then-code-eq0 : goal.returns-then-code-eq0
 returns-then-code-eq0 c =

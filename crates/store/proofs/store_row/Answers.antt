@@ -11,7 +11,7 @@ pub overflow_sub-bank : goal.overflow_sub-bank
 overflow_sub-bank c = omega (arith, bank_within _ _ _ c.bank.ensures)
 
 pub to_banks-requires : goal.to_banks-requires
-to_banks-requires c = (search rules, line_within Horizontal _ _ _ c.start-start.ensures, omega arith)
+to_banks-requires c = (line_within Horizontal _ _ _ c.start-start.ensures, omega arith)
 
 pub returns : goal.returns
 returns c = row_stored _ _ _ _ c.start-start.ensures c.bank.ensures _ _ _ _ (search rules) c.doubled.ensures c.to_banks.ensures

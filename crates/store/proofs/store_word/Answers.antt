@@ -9,7 +9,7 @@ pub bank-requires : goal.bank-requires
 bank-requires c = (search rules, start_within Scalar _ _ _ c.start-start.ensures)
 
 pub word_to-requires : goal.word_to-requires
-word_to-requires c = (search rules, line_within Scalar _ _ _ c.start-start.ensures, bank_within _ _ _ c.bank.ensures)
+word_to-requires c = (line_within Scalar _ _ _ c.start-start.ensures, bank_within _ _ _ c.bank.ensures)
 
 pub returns : goal.returns
 returns c = stored_along _ _ _ _ _ c.word_to.ensures (word_places _ _ _ _ c.start-start.ensures c.bank.ensures)
