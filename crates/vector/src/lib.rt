@@ -2,7 +2,7 @@
 // Each takes the word, so that only the fields that it uses are cut from it, and hands back what it counts.
 #![tactic(auto, using(crate::proofs::Laws::laws), unfolding(crate::specs::Inner::Effect::result_of, crate::specs::Inner::Effect::counted_of, crate::specs::Inner::Effect::vectored, ports::specs::Inner::Ports::second_of, pieces::specs::Inner::Regs::flags_at))]
 
-ghost use Rattle.std.specs.Prelude.{◌≡◌, true, false, [], ◌<◌, length};
+ghost use Rattle.std.specs.Prelude.{◌≡◌, true, false, []};
 ghost use Rattle.lane.specs.declared.Calc.TheVariants.{Min, Max, Abs, Neg, Add, Sub};
 ghost use Rattle.lane.specs.declared.Logic.TheVariants.{And, Xor, Or};
 ghost use Rattle.words.specs.Fields.{fields_of};
@@ -12,7 +12,7 @@ ghost use Rattle.words.specs.Second.{Register, Absent};
 ghost use Rattle.lanes.specs.Inner.Unpacked.{packs};
 ghost use Rattle.pieces.specs.Inner.Regs.{vreg_of};
 ghost use Rattle.ports.specs.Inner.Ports.{vectors, second_of, lanes_at, result_from};
-ghost use Rattle.vector.specs.Inner.Effect.{vectored, result_of};
+ghost use Rattle.vector.specs.Inner.Effect.{result_of};
 
 use lanes::Unpacked;
 use terms::Counted;
