@@ -187,16 +187,14 @@ pub fn vminabs(word: u32, vc: &mut [u32; 4], v: &mut [u8; 512]) -> Counted
     put(two(loops::clamp::vminabs, word, v), word, vc, v)
 }
 
+// The operation takes its truth table besides: the sources are read here.
 pub fn vbitop(word: u32, vc: &mut [u32; 4], v: &mut [u8; 512]) -> Counted
     ensures { result_from result (vectors vc.new v.new) ≡ result_of (vbitop_of (fields_of word)) (vectors vc.old v.old) }
 {
     let f = words::cut(word);
-    put(
-        loops::bitwise::vbitop(f.bitop, pieces::vreg(v, f.src1), pieces::vreg(v, f.src2)),
-        word,
-        vc,
-        v,
-    )
+    let a = pieces::vreg(v, f.src1);
+    let b = pieces::vreg(v, f.src2);
+    put(loops::bitwise::vbitop(f.bitop, a, b), word, vc, v)
 }
 
 pub fn vand(word: u32, vc: &mut [u32; 4], v: &mut [u8; 512]) -> Counted
