@@ -1,63 +1,59 @@
--- Two lists one behind the other: how a loop copies them there, and what a selector picks.
-use mathlib.Core.Path.{◌≡◌, ap, ◌∙◌}
+-- What a selector picks: its parts, lane by lane, and the picks from two sources.
+use mathlib.Core.Path.{◌≡◌, refl, ap, ◌∙◌}
 use mathlib.Core.Bool.{Bool, true, false, cond}
-use mathlib.Core.List.{List, ◌++◌, append-nil}
-use Prim.Native.Nat.{ℕ, zero, suc, ◌+◌, ◌*◌, ◌%◌, ◌≤◌, ◌<◌}
-use native.Mathlib.Numerals.{add-one}
+use mathlib.Core.List.{List, map}
+use Prim.Native.Nat.{ℕ, ◌-◌, ◌/◌, ◌%◌, ◌^◌, ◌<◌}
 use native.Mathlib.Omega.{arith}
 use lib.Dec.{eqb}
-use lib.ListN.{length, get_or, set, take, drop, replicate, get_or-append, length-append}
-use lib.Seq.{paste, paste-zero, paste-suc, take_all, take_at, drop-append-add, get_or-append-add}
-use Rattle.lanes.specs.Lanes.{listed, component, source, swizzled}
-use Rattle.lanes.proofs.Listed.{length_sixteen, element, listed_same}
+use lib.ListN.{length, get_or, replicate}
+use lib.Bits.{bit_and, and_mask}
+use lib.Lanes.{zip2, sel_l, top}
+use Rattle.std.specs.Int.{w8}
+use Rattle.std.proofs.lemmas.List.{length-map, get_or-map}
+use Rattle.std.proofs.lemmas.Simd.{zip2_splat, map-map, tops_compared, length-sel_l, get_or-sel_l, swz_l, SwzOk, SwzOk-from_below, Each1-from_get_or, length-swz_l, get_or-swz_l_below}
+use Rattle.lanes.specs.Lanes.{component, source, swizzled}
+use Rattle.lanes.proofs.Listed.{listed_is}
 
--- what a loop that copies s to place `at` of d has made before element i
-pub record Copied (d : List ℕ) (at : ℕ) (s : List ℕ) (i : ℕ) (w : List ℕ) : Type 0 where
-  pub count : i ≤ 16
-  pub is : w ≡ paste d at s i
+-- the low k bits of each lane, and of its high half
+pub low : (k : ℕ) (l : List ℕ) → length l ≡ 16 → zip2 bit_and l (replicate 16 (2 ^ k - 1)) ≡ map (λ x. x % 2 ^ k) l
+low k l e = zip2_splat bit_and l 16 (2 ^ k - 1) e ∙ (λ i. map (λ x. and_mask x k i) l)
 
-pub copy_start : (d : List ℕ) (at : ℕ) (s : List ℕ) → Copied d at s 0 d
-copy_start d at s = record { count = omega arith; is = paste-zero d at s }
-
-pub copy_more : {d : List ℕ} {at : ℕ} {s : List ℕ} {i k v : ℕ} {w : List ℕ} → Copied d at s i w → length s ≡ 16 → at + 16 ≤ length d → i < 16
-    → k ≡ at + i → v ≡ get_or s i 0 → Copied d at s (i + 1) (set w k v)
-copy_more {d} {at} {s} {i} u e f h p q =
-    record { count = omega arith; is = rw (p, q, u.is, add-one i) (paste-suc d at s i 0 (omega arith) (omega arith)) }
-
-pub copy_done : {d : List ℕ} {at : ℕ} {s : List ℕ} {i : ℕ} {w : List ℕ} → Copied d at s i w → length s ≡ 16 → 16 ≤ i
-    → w ≡ take at d ++ s ++ drop (at + 16) d
-copy_done {d} {at} {s} {i} u e h = let n : i ≡ 16 = omega (arith, u.count) in rw (take_all 16 s (omega arith)) at (rw n at u.is)
-
-pub room : (a : List ℕ) {d : List ℕ} → d ≡ a ++ replicate 16 0 → length a ≡ 16 → 32 ≤ length d
-room a p e = rw p (omega (arith, length-append a (replicate 16 0)))
-
--- a behind which b was copied
-pub joined : (a b : List ℕ) {d : List ℕ} → d ≡ a ++ replicate 16 0 → length a ≡ 16 → take 16 d ++ b ++ drop 32 d ≡ a ++ b
-joined a b p e =
-    let end : 32 ≡ length a + 16 = omega (arith, e) in
-    rw (p, take_at a (replicate 16 0) 16 e, end, drop-append-add a (replicate 16 0) 16) (append-nil (a ++ b))
-
--- one selector
-picked : (a b : List ℕ) → length a ≡ 16 → (k t : ℕ) → k < 16 → t < 2
-    → get_or (a ++ b) ((k + t * 16) % 32) 0 ≡ cond (eqb t 0) (get_or a k 0) (get_or b k 0)
-picked a b e k zero h l = let p : (k + 0 * 16) % 32 ≡ k = omega arith in rw p (get_or-append a b 0 k (omega arith))
-picked a b e k (suc zero) h l = let p : (k + 1 * 16) % 32 ≡ length a + k = omega arith in rw p (get_or-append-add a b k 0)
-picked a b e k (suc (suc t)) h l = let z : ⊥ = omega arith in absurd z
+pub high : (k : ℕ) (l : List ℕ) → length l ≡ 16 → zip2 bit_and (zip2 (λ a b. a / 2 ^ b) l (replicate 16 4)) (replicate 16 (2 ^ k - 1)) ≡ map (λ x. x / 16 % 2 ^ k) l
+high k l e =
+    rw (zip2_splat (λ a b. a / 2 ^ b) l 16 4 e)
+    (low k (map (λ x. x / 16) l) (length-map l (λ x. x / 16) ∙ e) ∙ map-map (λ x. x % 2 ^ k) (λ x. x / 16) l)
 
 component_lt : (hi : Bool) (s : ℕ) → component hi s < 16
 component_lt true s = omega arith
 component_lt false s = omega arith
 
-source_lt : (hi : Bool) (s : ℕ) → source hi s < 2
-source_lt true s = omega arith
-source_lt false s = omega arith
+-- both sources, picked from by the components k, and one pick of the two by the sources t
+module _ (hi : Bool) (sel : List ℕ) (e : length sel ≡ 16) {k : List ℕ} (is : k ≡ map (component hi) sel) where
+  long : length k ≡ 16
+  long = rw is (length-map sel (component hi) ∙ e)
 
--- all sixteen
-pub all_picked : (hi : Bool) (a b sel : List ℕ) {k w x : List ℕ} → length a ≡ 16 → w ≡ a ++ b
-    → k ≡ listed 16 (λ i. component hi (get_or sel i 0) + source hi (get_or sel i 0) * 16) → x ≡ listed 16 (λ i. get_or w (get_or k i 0 % 32) 0) ++ drop 16 w
-    → take 16 x ≡ swizzled hi a b sel
-unfolding swizzled
-all_picked hi a b sel {k} {w} e p q r =
-    ap (take 16) r ∙ take_at (listed 16 (λ i. get_or w (get_or k i 0 % 32) 0)) (drop 16 w) 16 (length_sixteen _)
-    ∙ listed_same 16 _ _
-    (λ i h. let s = get_or sel i 0 in rw (element _ q i h, p) (picked a b e (component hi s) (source hi s) (component_lt hi s) (source_lt hi s)))
+  at : (i : ℕ) → i < 16 → get_or k i 0 ≡ component hi (get_or sel i 0)
+  at i h = rw is (get_or-map (component hi) sel i 0 0 (omega (arith, e)))
+
+  pub picks : SwzOk w8 16 16 0 k
+  picks = SwzOk-from_below w8 16 1 16 0 k refl (omega (arith, long)) (Each1-from_get_or (λ j. j < 16) k 0 (λ i h. let h : i < 16 = omega (arith, long) in rw (at i h) (component_lt hi (get_or sel i 0))))
+
+  picked : (a : List ℕ) (i : ℕ) → i < 16 → get_or (swz_l w8 16 a 0 k) i 0 ≡ get_or a (component hi (get_or sel i 0)) 0
+  picked a i h =
+      let below = component_lt hi (get_or sel i 0) in
+      get_or-swz_l_below w8 16 a 0 k i (omega (arith, long)) (rw (at i h) below) ∙ rw (at i h) (ap (λ j. get_or a j 0) (omega arith))
+
+  pub all_picked : (a b : List ℕ) {t : List ℕ} → t ≡ map (source hi) sel
+      → sel_l (map (top 7) (zip2 (λ a b. cond (eqb a b) 255 0) t (replicate 16 0))) (swz_l w8 16 a 0 k) (swz_l w8 16 b 0 k) ≡ swizzled hi a b sel
+  unfolding swizzled
+  all_picked a b {t} q =
+      let first : ℕ → Bool = λ s. eqb (source hi s) 0 in
+      let m : map (top 7) (zip2 (λ a b. cond (eqb a b) 255 0) t (replicate 16 0)) ≡ map first sel =
+      tops_compared w8 eqb t (replicate 16 0) ∙ rw q (zip2_splat eqb (map (source hi) sel) 16 0 (length-map sel (source hi) ∙ e) ∙ map-map (λ x. eqb x 0) (source hi) sel)
+      in
+      let n : length (map first sel) ≡ 16 = length-map sel first ∙ e in
+      let p : length (swz_l w8 16 a 0 k) ≡ 16 = length-swz_l w8 16 a 0 k ∙ long in
+      let r : length (swz_l w8 16 b 0 k) ≡ 16 = length-swz_l w8 16 b 0 k ∙ long in
+      rw m
+      (listed_is _ _ (length-sel_l (map first sel) _ _ (omega (arith, n, p)) (omega (arith, n, r)) ∙ n)
+      (λ i h. get_or-sel_l (map first sel) _ _ i 0 (omega (arith, n)) (omega (arith, p)) (omega (arith, r)) ∙ rw (get_or-map first sel i 0 false (omega (arith, e)), picked a i h, picked b i h)))

@@ -1,9 +1,0 @@
--- `lanes::shuffle::indices` meets its contract, by the loop law of the bytes.
-use Rattle.lanes.proofs.Loop.{made_start, made_more}
-use Rattle.lanes.proofs.shuffle.indices.Goals as goal
-
-pub loop-i-init : goal.loop-i-init
-loop-i-init c = made_start
-
-pub loop-i-preserved : goal.loop-i-preserved
-loop-i-preserved c = made_more c.loop-i.invariant c.loop-i-test.true c.index.ensures
