@@ -9,20 +9,21 @@ ghost use Rattle.banks.specs.Inner.Access.{cells_of};
 
 use terms::Way;
 
-// k of document 01, by stride code: the address shifted to the right, then masked; of its thirteen bits only code 0's mask drops any. (Two arrays of four bytes:
-// each is put together by one store.)
-const SHIFT: [u8; 4] = [5, 5, 6, 7];
-
-const MASK: [u8; 4] = [0x07, 0xff, 0x7f, 0x3f];
+// k of document 01, by stride code: the address shifted to the right by the first number, then masked by the second; of its thirteen bits only
+// code 0's mask drops any.
+const TURNS: [(u8, u8); 4] = [(5, 0x07), (5, 0xff), (6, 0x7f), (7, 0x3f)];
 
 // What the low four bits of an address are moved on by.
+#[tactic(auto, using(crate::proofs::Masks::turn_table))]
 fn turn(code: usize, addr: usize) -> usize
     requires { (code < 4) × (addr < 8192) }
     ensures { result ≡ turn_of code addr }
 {
-    addr >> SHIFT[code] & MASK[code] as usize
+    let (shift, mask) = TURNS[code];
+    addr >> shift & usize::from(mask)
 }
 
+#[tactic(auto, using(crate::proofs::Masks::turn_le), unfolding(crate::specs::Bank::bank_of))]
 pub fn bank(code: usize, addr: usize) -> usize
     requires { (code < 4) × (addr < 8192) }
     ensures { result ≡ bank_of code addr }
@@ -31,6 +32,7 @@ pub fn bank(code: usize, addr: usize) -> usize
 }
 
 // The first address of an access.
+#[tactic(auto, using(crate::proofs::Masks::row_mask, crate::proofs::Masks::column_mask, crate::proofs::Masks::word_mask), unfolding(crate::specs::Line::start_of))]
 pub fn start(way: Way, code: usize, addr: usize) -> usize
     requires { code < 4 }
     ensures { result ≡ start_of way code addr }
@@ -43,24 +45,25 @@ pub fn start(way: Way, code: usize, addr: usize) -> usize
 }
 
 // How far apart its addresses are.
+#[tactic(auto, using(crate::proofs::Masks::stride_shift), unfolding(crate::specs::Line::step_of))]
 pub fn step(way: Way, code: usize) -> usize
     requires { code < 4 }
     ensures { result ≡ step_of way code }
 {
     match way {
-        Way::Horizontal => 1,
         Way::Vertical => 16 << code,
-        Way::Scalar => 1,
+        Way::Horizontal | Way::Scalar => 1,
     }
 }
 
 // How many cells it enters: cells_are of proofs/Counts says that they are the distinct pairs of its address list.
+#[tactic(auto, using(crate::proofs::Masks::column_cells), unfolding(crate::specs::Inner::Access::cells_of))]
 pub fn cells(way: Way, code: usize) -> u64
     ensures { result ≡ cells_of way code }
 {
     match way {
-        Way::Horizontal => 16,
-        Way::Vertical => if code == 0 { 8 } else { 16 },
+        Way::Vertical if code == 0 => 8,
+        Way::Horizontal | Way::Vertical => 16,
         Way::Scalar => 4,
     }
 }
