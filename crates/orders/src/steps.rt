@@ -47,6 +47,7 @@ pub(crate) fn step(line: &[u8]) -> Result<Triple, Fault> {
     if head.is_empty() {
         return Err(whole(line, Wanted::Name));
     }
+    // The head begins where the line does, so that places in it are places in the line.
     let word = instruction(head).map_err(|wanted| whole(head, wanted))?;
     let (side, mask) = match sign {
         Some(c) => sided(c.next())?,
