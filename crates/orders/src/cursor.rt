@@ -8,7 +8,7 @@ use text::find::{find, gap};
 #[derive(Clone, Copy)]
 pub(crate) struct Cursor<'a> {
     pub(crate) line: &'a [u8],
-    pub(crate) at: usize,
+    at: usize,
     ghost within: { at ≤ length line.now },
 }
 
