@@ -71,13 +71,11 @@ impl Access for Column {
     const WAY: Way = Way::Vertical;
 
     fn load(n: usize, code: usize, x: usize, ds: &[u8; 8192], v: &mut [u8; 512]) {
-        let at = 16 * n;
-        store::load_column(ds, code, x, &mut v[at..at + 16]);
+        store::load_column(ds, code, x, &mut v[16 * n..16 * n + 16]);
     }
 
     fn store(n: usize, code: usize, x: usize, ds: &mut [u8; 8192], v: &[u8; 512]) {
-        let at = 16 * n;
-        store::store_column(ds, code, x, &v[at..at + 16]);
+        store::store_column(ds, code, x, &v.as_chunks::<16>().0[n]);
     }
 }
 
