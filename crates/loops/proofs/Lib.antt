@@ -1,7 +1,6 @@
--- The laws of sixteen bytes owned, of results that are never clipped, of a loop of shifts, of the sixteen words of vadd9, and of a bit operation
--- on packed flags.
-pub mod Owned
+-- The laws of numbers made by a call for each index, of unsigned results that are never clipped, of the sixteen words of vadd9, and of a bit
+-- operation on packed flags.
+pub mod FromFn
 pub mod Unclipped
-pub mod Shifted
 pub mod Words9
 pub mod Compared

@@ -1,229 +1,136 @@
-// The arithmetic operations, a loop each, with their flags not packed yet: the compiler makes vector code of such a loop.
-ghost use Rattle.std.specs.Prelude.{◌≡◌, true, false, cond, eqb, get_or, replicate};
+// The arithmetic operations, with their flags not packed yet.
+ghost use Rattle.std.specs.Prelude.{◌≡◌, true, false, if◌then◌else◌, replicate};
+ghost use Rattle.lane.specs.declared.Calc.{Calc};
 ghost use Rattle.lane.specs.declared.Calc.TheVariants.{Min, Max, Abs, Neg, Add, Sub};
-ghost use Rattle.lane.specs.Lane.{arith_lane};
-ghost use Rattle.lanes.specs.Lanes.{listed};
+ghost use Rattle.lane.specs.Lane.{arith_lane, tells};
 ghost use Rattle.lanes.specs.Inner.Unpacked.{arith_unpacked};
+ghost use Rattle.loops.specs.Gives.{Gives};
 
+use crate::each::each;
 use lane::scalar;
-use lanes::{Unpacked, packed};
+use lanes::{Unpacked, moves, packed};
 
 // Signed: the sign flag is bit 7 of the clipped byte.
+fn signed<F: Fn(u8, u8) -> u8, G: Fn(u8, u8) -> u8>(f: F, clipped: G, a: [u8; 16], b: [u8; 16]) -> Unpacked
+    requires f { F.IsAlwaysCallable f }
+    requires clipped { G.IsAlwaysCallable clipped }
+    ensures {
+        (op : Calc)
+        → Gives F.Fn f (λ x y. (arith_lane op true x y).byte)
+        → Gives G.Fn clipped (λ x y. if (arith_lane op true x y).clipped then 1 else 0)
+        → result ≡ arith_unpacked op true a b
+    }
+{
+    let bytes = each(f, a, b);
+    Unpacked {
+        bytes,
+        tested: bytes,
+        tops: bytes,
+        clipped: packed::tally(each(clipped, a, b)),
+    }
+}
+
+// Unsigned: the sign flag tells that the result was clipped.
+fn unsigned<F: Fn(u8, u8) -> u8, G: Fn(u8, u8) -> u8>(f: F, clipped: G, a: [u8; 16], b: [u8; 16]) -> Unpacked
+    requires f { F.IsAlwaysCallable f }
+    requires clipped { G.IsAlwaysCallable clipped }
+    ensures {
+        (op : Calc)
+        → tells op ≡ true
+        → Gives F.Fn f (λ x y. (arith_lane op false x y).byte)
+        → Gives G.Fn clipped (λ x y. if (arith_lane op false x y).sign then 255 else 0)
+        → result ≡ arith_unpacked op false a b
+    }
+{
+    let bytes = each(f, a, b);
+    let tops = each(clipped, a, b);
+    Unpacked {
+        bytes,
+        tested: bytes,
+        tops,
+        clipped: packed::tally(tops),
+    }
+}
+
+fn never(_x: u8, _y: u8) -> u8
+    ensures { result ≡ 0 }
+{
+    0
+}
+
 pub fn vmin_s(a: [u8; 16], b: [u8; 16]) -> Unpacked
     ensures { result ≡ arith_unpacked Min true a b }
 {
-    let mut x = [0u8; 16];
-    for i in 0..16 {
-        x[i] = scalar::vmin_s(a[i], b[i]);
-    }
-    Unpacked {
-        bytes: x,
-        tested: x,
-        tops: x,
-        clipped: 0,
-    }
+    signed(scalar::vmin_s, never, a, b)
 }
 
 pub fn vmax_s(a: [u8; 16], b: [u8; 16]) -> Unpacked
     ensures { result ≡ arith_unpacked Max true a b }
 {
-    let mut x = [0u8; 16];
-    for i in 0..16 {
-        x[i] = scalar::vmax_s(a[i], b[i]);
-    }
-    Unpacked {
-        bytes: x,
-        tested: x,
-        tops: x,
-        clipped: 0,
-    }
-}
-
-fn vadd_s_clipped(a: [u8; 16], b: [u8; 16]) -> [u8; 16]
-    ensures { result ≡ listed 16 (λ i. cond (arith_lane Add true (get_or a i 0) (get_or b i 0)).clipped 1 0) }
-{
-    let mut x = [0u8; 16];
-    for i in 0..16 {
-        x[i] = scalar::vadd_s_clipped(a[i], b[i]);
-    }
-    x
+    signed(scalar::vmax_s, never, a, b)
 }
 
 pub fn vadd_s(a: [u8; 16], b: [u8; 16]) -> Unpacked
     ensures { result ≡ arith_unpacked Add true a b }
 {
-    let clipped = packed::tally(vadd_s_clipped(a, b));
-    let mut x = [0u8; 16];
-    for i in 0..16 {
-        x[i] = scalar::vadd_s(a[i], b[i]);
-    }
-    Unpacked {
-        bytes: x,
-        tested: x,
-        tops: x,
-        clipped,
-    }
-}
-
-fn vsub_s_clipped(a: [u8; 16], b: [u8; 16]) -> [u8; 16]
-    ensures { result ≡ listed 16 (λ i. cond (arith_lane Sub true (get_or a i 0) (get_or b i 0)).clipped 1 0) }
-{
-    let mut x = [0u8; 16];
-    for i in 0..16 {
-        x[i] = scalar::vsub_s_clipped(a[i], b[i]);
-    }
-    x
+    signed(scalar::vadd_s, scalar::vadd_s_clipped, a, b)
 }
 
 pub fn vsub_s(a: [u8; 16], b: [u8; 16]) -> Unpacked
     ensures { result ≡ arith_unpacked Sub true a b }
 {
-    let clipped = packed::tally(vsub_s_clipped(a, b));
-    let mut x = [0u8; 16];
-    for i in 0..16 {
-        x[i] = scalar::vsub_s(a[i], b[i]);
-    }
-    Unpacked {
-        bytes: x,
-        tested: x,
-        tops: x,
-        clipped,
-    }
-}
-
-// Where vneg and vabs are clipped.
-fn least(a: [u8; 16]) -> [u8; 16]
-    ensures { result ≡ listed 16 (λ i. cond (eqb (get_or a i 0) 128) 1 0) }
-{
-    let mut x = [0u8; 16];
-    for i in 0..16 {
-        x[i] = scalar::least(a[i]);
-    }
-    x
+    signed(scalar::vsub_s, scalar::vsub_s_clipped, a, b)
 }
 
 pub fn vneg_s(a: [u8; 16]) -> Unpacked
     ensures { result ≡ arith_unpacked Neg true a (replicate 16 0) }
 {
-    let clipped = packed::tally(least(a));
-    let mut x = [0u8; 16];
-    for i in 0..16 {
-        x[i] = scalar::vneg_s(a[i]);
-    }
-    Unpacked {
-        bytes: x,
-        tested: x,
-        tops: x,
-        clipped,
-    }
+    signed(
+        |x, _| scalar::vneg_s(x),
+        |x, _| scalar::least(x),
+        a,
+        [0; 16],
+    )
 }
 
 pub fn vabs_s(a: [u8; 16]) -> Unpacked
     ensures { result ≡ arith_unpacked Abs true a (replicate 16 0) }
 {
-    let clipped = packed::tally(least(a));
-    let mut x = [0u8; 16];
-    for i in 0..16 {
-        x[i] = scalar::vabs_s(a[i]);
-    }
-    Unpacked {
-        bytes: x,
-        tested: x,
-        tops: x,
-        clipped,
-    }
+    signed(
+        |x, _| scalar::vabs_s(x),
+        |x, _| scalar::least(x),
+        a,
+        [0; 16],
+    )
 }
 
-// Unsigned: the sign flag tells that the result was clipped, which a minimum, a maximum and a magnitude never are.
+// An unsigned minimum, maximum and magnitude are never clipped: moves of what they make.
 pub fn vmin_u(a: [u8; 16], b: [u8; 16]) -> Unpacked
     ensures { result ≡ arith_unpacked Min false a b }
 {
-    let mut x = [0u8; 16];
-    for i in 0..16 {
-        x[i] = scalar::vmin_u(a[i], b[i]);
-    }
-    Unpacked {
-        bytes: x,
-        tested: x,
-        tops: [0u8; 16],
-        clipped: 0,
-    }
+    moves::mov(each(scalar::vmin_u, a, b))
 }
 
 pub fn vmax_u(a: [u8; 16], b: [u8; 16]) -> Unpacked
     ensures { result ≡ arith_unpacked Max false a b }
 {
-    let mut x = [0u8; 16];
-    for i in 0..16 {
-        x[i] = scalar::vmax_u(a[i], b[i]);
-    }
-    Unpacked {
-        bytes: x,
-        tested: x,
-        tops: [0u8; 16],
-        clipped: 0,
-    }
+    moves::mov(each(scalar::vmax_u, a, b))
 }
 
 pub fn vabs_u(a: [u8; 16]) -> Unpacked
     ensures { result ≡ arith_unpacked Abs false a (replicate 16 0) }
 {
-    Unpacked {
-        bytes: a,
-        tested: a,
-        tops: [0u8; 16],
-        clipped: 0,
-    }
-}
-
-fn vadd_u_clipped(a: [u8; 16], b: [u8; 16]) -> [u8; 16]
-    ensures { result ≡ listed 16 (λ i. cond (arith_lane Add false (get_or a i 0) (get_or b i 0)).sign 255 0) }
-{
-    let mut x = [0u8; 16];
-    for i in 0..16 {
-        x[i] = scalar::vadd_u_clipped(a[i], b[i]);
-    }
-    x
+    moves::mov(a)
 }
 
 pub fn vadd_u(a: [u8; 16], b: [u8; 16]) -> Unpacked
     ensures { result ≡ arith_unpacked Add false a b }
 {
-    let tops = vadd_u_clipped(a, b);
-    let mut x = [0u8; 16];
-    for i in 0..16 {
-        x[i] = scalar::vadd_u(a[i], b[i]);
-    }
-    Unpacked {
-        bytes: x,
-        tested: x,
-        tops,
-        clipped: packed::tally(tops),
-    }
-}
-
-fn vsub_u_clipped(a: [u8; 16], b: [u8; 16]) -> [u8; 16]
-    ensures { result ≡ listed 16 (λ i. cond (arith_lane Sub false (get_or a i 0) (get_or b i 0)).sign 255 0) }
-{
-    let mut x = [0u8; 16];
-    for i in 0..16 {
-        x[i] = scalar::vsub_u_clipped(a[i], b[i]);
-    }
-    x
+    unsigned(scalar::vadd_u, scalar::vadd_u_clipped, a, b)
 }
 
 pub fn vsub_u(a: [u8; 16], b: [u8; 16]) -> Unpacked
     ensures { result ≡ arith_unpacked Sub false a b }
 {
-    let tops = vsub_u_clipped(a, b);
-    let mut x = [0u8; 16];
-    for i in 0..16 {
-        x[i] = scalar::vsub_u(a[i], b[i]);
-    }
-    Unpacked {
-        bytes: x,
-        tested: x,
-        tops,
-        clipped: packed::tally(tops),
-    }
+    unsigned(scalar::vsub_u, scalar::vsub_u_clipped, a, b)
 }

@@ -1,19 +1,12 @@
--- `loops::arithmetic::vmax_u` meets its contract, by the loop law of the bytes.
+-- `loops::arithmetic::vmax_u` meets its contract: a move.
+use Rattle.std.proofs.Common.{rules, false, ◌∙◌}
 use Rattle.lane.specs.declared.Calc.TheVariants.{Max}
+use Rattle.lane.specs.Lane.{arith_lane}
 use Rattle.lane.proofs.Operations.{max_unsigned}
-use Rattle.loops.proofs.Owned.{bytes_fit}
 use Rattle.loops.proofs.Unclipped.{unclipped}
-use Rattle.lanes.proofs.Loop.{made_start, made_more, made_all}
 use Rattle.loops.proofs.arithmetic.vmax_u.Goals as goal
-
-pub loop-i-init : goal.loop-i-init
-loop-i-init c = made_start
-
-pub loop-i-preserved : goal.loop-i-preserved
-loop-i-preserved c = made_more c.loop-i.invariant c.loop-i-test.true c.vmax_u.ensures
 
 pub returns : goal.returns
 returns c =
-    let g = c.well_formed in
-    unclipped Max _ _ _ (λ i. max_unsigned _ _ (bytes_fit c.args.a g.0.0 g.0.1.1 i) (bytes_fit c.args.b g.1.0.0 g.1.0.1.1 i))
-    (made_all c.loop-i.invariant c.loop-i-test.false)
+    c.mov.ensures
+    ∙ unclipped Max c.args.a c.args.b _ (λ i. max_unsigned _ _ (search rules) (search rules)) (c.each.ensures (λ x y. (arith_lane Max false x y).byte) (λ x y r u v p. search rules))

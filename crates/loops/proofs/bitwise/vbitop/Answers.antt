@@ -1,17 +1,11 @@
--- `loops::bitwise::vbitop` meets its contract, by the loop law of the bytes.
-use mathlib.Core.Path.{◌∙◌}
+-- `loops::bitwise::vbitop` meets its contract.
+use Rattle.std.proofs.Common.{rules, ◌∙◌}
+use Rattle.bits.specs.Bitop.{bitop}
 use Rattle.lane.specs.Lane.{bitop_lane}
 use Rattle.lanes.specs.Inner.Unpacked.{bitop_unpacked}
 use Rattle.lanes.proofs.Unpacking.{moved}
-use Rattle.lanes.proofs.Loop.{made_start, made_more, made_all}
 use Rattle.loops.proofs.bitwise.vbitop.Goals as goal
-
-pub loop-i-init : goal.loop-i-init
-loop-i-init c = made_start
-
-pub loop-i-preserved : goal.loop-i-preserved
-loop-i-preserved c = made_more c.loop-i.invariant c.loop-i-test.true c.bitop8.ensures
 
 pub returns : goal.returns
 unfolding bitop_unpacked bitop_lane
-returns c = c.mov.ensures ∙ moved _ (made_all c.loop-i.invariant c.loop-i-test.false)
+returns c = c.mov.ensures ∙ moved _ (c.each.ensures (bitop 8 c.args.op) (λ x y r u v p. search rules))

@@ -1,7 +1,7 @@
--- `loops::select::words` meets its contract: eight words of each source.
-use Rattle.lanes.specs.Lanes.{listed}
+-- `loops::select::words` meets its contract.
+use Rattle.std.proofs.Common.{rules}
+use Rattle.loops.proofs.FromFn.{from_fn_gives}
 use Rattle.loops.proofs.select.words.Goals as goal
 
 pub returns : goal.returns
-unfolding listed
-returns c = rw (c.eight-p.ensures, c.eight-q.ensures)
+returns c = from_fn_gives c.from_fn.ensures.items _ (λ i y f' l p. search rules)

