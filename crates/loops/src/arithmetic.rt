@@ -11,15 +11,18 @@ use lane::scalar;
 use lanes::{Unpacked, moves, packed};
 
 // Signed: the sign flag is bit 7 of the clipped byte.
-fn signed<F: Fn(u8, u8) -> u8, G: Fn(u8, u8) -> u8>(f: F, clipped: G, a: [u8; 16], b: [u8; 16]) -> Unpacked
+fn signed<F: Fn(u8, u8) -> u8, G: Fn(u8, u8) -> u8>(
+    f: F,
+    clipped: G,
+    a: [u8; 16],
+    b: [u8; 16],
+) -> Unpacked
     requires f { F.IsAlwaysCallable f }
     requires clipped { G.IsAlwaysCallable clipped }
-    ensures {
-        (op : Calc)
+    ensures { (op : Calc)
         → Gives F.Fn f (λ x y. (arith_lane op true x y).byte)
         → Gives G.Fn clipped (λ x y. if (arith_lane op true x y).clipped then 1 else 0)
-        → result ≡ arith_unpacked op true a b
-    }
+        → result ≡ arith_unpacked op true a b }
 {
     let bytes = each(f, a, b);
     Unpacked {
@@ -31,16 +34,19 @@ fn signed<F: Fn(u8, u8) -> u8, G: Fn(u8, u8) -> u8>(f: F, clipped: G, a: [u8; 16
 }
 
 // Unsigned: the sign flag tells that the result was clipped.
-fn unsigned<F: Fn(u8, u8) -> u8, G: Fn(u8, u8) -> u8>(f: F, clipped: G, a: [u8; 16], b: [u8; 16]) -> Unpacked
+fn unsigned<F: Fn(u8, u8) -> u8, G: Fn(u8, u8) -> u8>(
+    f: F,
+    clipped: G,
+    a: [u8; 16],
+    b: [u8; 16],
+) -> Unpacked
     requires f { F.IsAlwaysCallable f }
     requires clipped { G.IsAlwaysCallable clipped }
-    ensures {
-        (op : Calc)
+    ensures { (op : Calc)
         → tells op ≡ true
         → Gives F.Fn f (λ x y. (arith_lane op false x y).byte)
         → Gives G.Fn clipped (λ x y. if (arith_lane op false x y).sign then 255 else 0)
-        → result ≡ arith_unpacked op false a b
-    }
+        → result ≡ arith_unpacked op false a b }
 {
     let bytes = each(f, a, b);
     let tops = each(clipped, a, b);

@@ -12,11 +12,9 @@ use lanes::Unpacked;
 // Over the shift of one component, arithmetic or logical: a flag for the sign would be asked in each.
 fn shift<F: Fn(u8, u8) -> Shifted>(cut: F, a: [u8; 16], b: [u8; 16]) -> Unpacked
     requires { F.IsAlwaysCallable cut }
-    ensures {
-        (signed : Bool)
+    ensures { (signed : Bool)
         → Gives F.Fn cut (λ x y. record { byte = (shift_lane signed x y).byte; whole = (if (shift_lane signed x y).zero then 0 else 1) })
-        → result ≡ shift_unpacked signed a b
-    }
+        → result ≡ shift_unpacked signed a b }
 {
     let bytes = each(|x, y| cut(x, y).byte, a, b);
     let tested = each(|x, y| cut(x, y).whole, a, b);

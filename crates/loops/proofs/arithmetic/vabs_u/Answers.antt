@@ -1,5 +1,5 @@
 -- `loops::arithmetic::vabs_u` meets its contract: a move, and the bytes are as they were.
-use Rattle.std.proofs.Common.{rules, ◌≡◌, ℕ, false, get_or, replicate, length, sym, ap, ◌∙◌}
+use Rattle.std.proofs.Common.{rules, ◌≡◌, ℕ, false, get_or, replicate, sym, ap, ◌∙◌}
 use Rattle.lane.specs.declared.Calc.TheVariants.{Abs}
 use Rattle.lane.specs.Lane.{Lane, arith_lane}
 use Rattle.lane.proofs.Saturated.{moved}
