@@ -7,6 +7,7 @@ use std::io::Stdout;
 use terms::Way;
 
 // The bank of the load's address i.
+#[tactic(auto, using(banks::proofs::Places::way_lt))]
 fn bank_at(code: usize, i: usize) -> usize
     requires { (code < 4) × (i < 16) }
 {
@@ -23,7 +24,7 @@ fn line(out: Stdout, code: usize)
     for i in 0..16 {
         let _ = print!(out; " {}", bank_at(code, i));
     }
-    let _ = out.write_all(b"\n");
+    let _ = println!(out);
 }
 
 fn main(rt: HostRuntime) {

@@ -1,15 +1,16 @@
 // Turns instruction words into lines, or lines into words: docs/NAMES.md says what is read and written.
 #![tactic(auto)]
 
+mod fault;
 mod report;
 mod to_lines;
 mod to_words;
 mod walk;
 
-ghost use Rattle.text.specs.Counts.{IsPrefixLen};
-
+use crate::fault::Fault;
+use crate::walk::turn;
+use std::io;
 use text::args;
-use text::find::same;
 use text::input::fill;
 use text::say::say;
 
@@ -21,58 +22,42 @@ pub enum Job {
 }
 
 // What is asked for, if that is known.
-#[derive(Clone, Copy)]
-enum Asked {
-    Known(Job),
-    Unknown,
-}
-
-fn first_word(rt: HostRuntime) -> Asked {
+fn asked(rt: HostRuntime) -> Option<Job> {
     let mut word = [0u8; 8];
     let n = args::whole(rt, 1, &mut word);
-    if same(&word[..n], b"names") {
-        return Asked::Known(Job::Names);
+    match &word[..n] {
+        b"names" => Some(Job::Names),
+        b"words" => Some(Job::Words),
+        _ => None,
     }
-    if same(&word[..n], b"words") {
-        return Asked::Known(Job::Words);
-    }
-    Asked::Unknown
-}
-
-// The file's name, of which no more is shown than fits.
-fn file_name(rt: HostRuntime, file: &mut [u8]) -> usize
-    ensures { IsPrefixLen result file.new }
-{
-    args::beginning(rt, 2, file)
 }
 
 // Standard input, looked through for a fault first, so that nothing is written where there is one.
-fn run(rt: HostRuntime, job: Job, file: &[u8]) {
-    let mut text = [0u8; 65536];
-    let filled = fill(&mut rt.stdin(), &mut text);
-    let n = filled.length;
-    if filled.failed {
-        report::unread(rt.stderr(), job, file);
-        return;
-    }
+fn run(rt: HostRuntime, job: Job, room: &mut [u8; 65536]) -> Result<(), Fault<'_>> {
+    let Ok(n) = fill(&mut rt.stdin(), room) else {
+        return Err(Fault::Unread);
+    };
     if n > 65535 {
-        report::long(rt.stderr(), job, file);
-        return;
+        return Err(Fault::Long);
     }
-    if walk::walk(rt, job, file, &text[..n], false) {
-        walk::walk(rt, job, file, &text[..n], true);
-    }
+    let text = &room[..n];
+    turn(job, text, &mut io::sink())?;
+    turn(job, text, &mut rt.stdout())
 }
 
 fn main(rt: HostRuntime) {
-    let mut file = [0u8; 4096];
-    let n = file_name(rt, &mut file);
-    let Asked::Known(job) = first_word(rt) else {
+    let Some(job) = asked(rt) else {
         say(
             rt.stderr(),
             b"usage: lines names FILE, or lines words FILE\n",
         );
         return;
     };
-    run(rt, job, &file[..n]);
+    let mut room = [0u8; 65536];
+    if let Err(fault) = run(rt, job, &mut room) {
+        // Of the file's name no more is shown than fits.
+        let mut file = [0u8; 4096];
+        let n = args::beginning(rt, 2, &mut file);
+        report::tell(rt.stderr(), job, &file[..n], fault);
+    }
 }

@@ -1,34 +1,65 @@
 // The one line that is said of a fault.
 use crate::Job;
+use crate::fault::{Fault, Place, Why};
+use orders::cursor::text;
+use orders::tell::examples;
 use std::io::Stderr;
+use terms::{End, Refusal};
+use text::find::{feed, find};
 use text::say::{decimal, quote, say};
+use text::squeeze::clean;
 
-// Who speaks, and of which file.
-fn begin(err: Stderr, job: Job, file: &[u8]) {
+// What was expected in place of what is refused.
+fn expected(err: Stderr, end: End, line: &[u8]) {
+    match end {
+        End::Refused(Refusal::Foreign) => say(err, b"an opcode from 0x80 to 0xdf"),
+        End::Refused(_) => say(err, b"an opcode that is documented"),
+        End::Unnamed => say(err, b"the name of an instruction"),
+        _ => examples(err, text(line, 0)),
+    }
+}
+
+fn reason(err: Stderr, why: Why, line: &[u8]) {
+    match why {
+        Why::NoNumber => say(
+            err,
+            b"expected 1 to 8 hexadecimal digits, with or without 0x",
+        ),
+        Why::Refused(end) => {
+            say(err, b"refused, ");
+            decimal(err, u64::from(u32::from(end)));
+            say(err, b" (expected ");
+            expected(err, end, line);
+            say(err, b")");
+        }
+    }
+}
+
+// The line, what is left of the text at fault, and the reason.
+fn place(err: Stderr, at: Place<'_>) {
+    let mut room = [0u8; 65536];
+    let n = clean(at.text, &mut room);
+    let left = &room[..n];
+    say(err, b"line ");
+    decimal(err, u64::from(at.line));
+    say(err, b": ");
+    quote(err, &left[..find(left, 0, feed)], 64);
+    say(err, b": ");
+    reason(err, at.why, left);
+}
+
+// Who speaks, of which file, and the fault.
+pub fn tell(err: Stderr, job: Job, file: &[u8], fault: Fault<'_>) {
     match job {
         Job::Names => say(err, b"names: "),
         Job::Words => say(err, b"words: "),
     }
     say(err, file);
     say(err, b": ");
-}
-
-pub fn unread(err: Stderr, job: Job, file: &[u8]) {
-    begin(err, job, file);
-    say(err, b"cannot be read\n");
-}
-
-pub fn long(err: Stderr, job: Job, file: &[u8]) {
-    begin(err, job, file);
-    say(err, b"longer than 65535 bytes\n");
-}
-
-// Up to the reason: the file, the line and the text at fault.
-pub fn place(err: Stderr, job: Job, file: &[u8], line: u32, text: &[u8]) {
-    begin(err, job, file);
-    say(err, b"line ");
-    decimal(err, line as u64);
-    say(err, b": ");
-    quote(err, text, 64);
-    say(err, b": ");
+    match fault {
+        Fault::Unread => say(err, b"cannot be read"),
+        Fault::Long => say(err, b"longer than 65535 bytes"),
+        Fault::At(at) => place(err, at),
+    }
+    say(err, b"\n");
 }

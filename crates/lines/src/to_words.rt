@@ -1,40 +1,36 @@
-// Lines into words: what is left of a line of input is the line of a word.
-use crate::{Job, report};
-use orders::cursor::text;
-use orders::tell::examples;
-use std::io::{Stderr, Stdout};
-use text::find::{What, find};
-use text::print;
-use text::say::say;
+// Lines into words: what is left of a line of input is the line of an instruction word.
+ghost use Rattle.std.specs.Prelude.{◌<◌, length};
 
-fn refused(err: Stderr, answer: u32, left: &[u8]) {
-    if answer == 8 {
-        say(err, b"refused, 8 (expected the name of an instruction)\n");
-        return;
+use crate::fault::{Fault, Why};
+use std::io::Write;
+use terms::End;
+use text::squeeze::clean;
+
+// What is left of a line, with a line feed: if anything is, its word is written.
+fn one<W: Write>(left: &[u8], out: &mut W) -> Result<(), Why> {
+    if left == b"\n".as_slice() {
+        return Ok(());
     }
-    say(err, b"refused, 9 (expected ");
-    examples(err, text(left, 0));
-    say(err, b")\n");
-}
-
-fn print_word(out: Stdout, word: u32) {
-    print::hex(out, word as u64, 8);
-    print::text(out, b"\n");
-}
-
-// What is left of a line, with a line feed: whether it is the line of a word, which is written if it is asked for.
-pub fn one(rt: HostRuntime, file: &[u8], line: u32, left: &[u8], writing: bool) -> bool {
     let read = names::read_line(left);
-    let end = read.end;
-    let answer = terms::number(end);
-    if answer != 0 {
-        let n = find(left, 0, What::Feed);
-        report::place(rt.stderr(), Job::Words, file, line, &left[..n]);
-        refused(rt.stderr(), answer, left);
-        return false;
+    if read.end != End::Done {
+        return Err(Why::Refused(read.end));
     }
-    if writing {
-        print_word(rt.stdout(), read.word);
+    let _ = writeln!(out, "{:08x}", read.word);
+    Ok(())
+}
+
+// A line without its comment. What is left of it is put in the room, which is given since it is too large to be made anew for each line.
+pub fn whole<'a, W: Write>(
+    line: u32,
+    part: &'a [u8],
+    room: &mut [u8; 65536],
+    out: &mut W,
+) -> Result<(), Fault<'a>>
+    requires { length part.now < 65536 }
+{
+    let n = clean(part, room);
+    match one(&room[..n], out) {
+        Ok(()) => Ok(()),
+        Err(why) => Err(Fault::at(line, part, why)),
     }
-    true
 }

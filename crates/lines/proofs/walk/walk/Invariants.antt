@@ -1,6 +1,0 @@
--- `lines::walk::walk` is safe and ends.
-use Rattle.std.proofs.Common.{◌-◌, length}
-use Rattle.lines.proofs.walk.walk.Given as goal
-
-abbrev pub decreases-loop-at : goal.decreases-loop-at
-decreases-loop-at l = length l.text - l.at
