@@ -4,6 +4,7 @@ ghost use Rattle.lanes.specs.Lanes.{flag_bytes};
 ghost use Rattle.lanes.specs.Inner.Unpacked.{mov_unpacked, mov_imm_unpacked};
 
 use crate::Unpacked;
+use std::array;
 
 // The sign flags are cleared, the zero flags test the bytes.
 pub fn mov(a: [u8; 16]) -> Unpacked
@@ -35,24 +36,8 @@ pub fn vmov(byte: u8) -> Unpacked
 pub fn mov_vc(w0: u32, w1: u32, w2: u32, w3: u32) -> [u8; 16]
     ensures { result ≡ flag_bytes (w0 ∷ w1 ∷ w2 ∷ w3 ∷ []) }
 {
-    [
-        (w0 % 256) as u8,
-        (w0 / 256 % 256) as u8,
-        (w0 / 65536 % 256) as u8,
-        (w0 / 16777216 % 256) as u8,
-        (w1 % 256) as u8,
-        (w1 / 256 % 256) as u8,
-        (w1 / 65536 % 256) as u8,
-        (w1 / 16777216 % 256) as u8,
-        (w2 % 256) as u8,
-        (w2 / 256 % 256) as u8,
-        (w2 / 65536 % 256) as u8,
-        (w2 / 16777216 % 256) as u8,
-        (w3 % 256) as u8,
-        (w3 / 256 % 256) as u8,
-        (w3 / 65536 % 256) as u8,
-        (w3 / 16777216 % 256) as u8,
-    ]
+    let words = [w0, w1, w2, w3];
+    array::from_fn(|i| words[i / 4].to_le_bytes()[i % 4])
 }
 
 pub fn splat(x: u8) -> [u8; 16]

@@ -3,9 +3,8 @@ use mathlib.Core.Path.{refl}
 use Rattle.lane.specs.Lane.{mov_imm_lane}
 use Rattle.lanes.specs.Lanes.{listed, how_many}
 use Rattle.lanes.specs.Inner.Unpacked.{mov_imm_unpacked, unpacked_of}
-use Rattle.lanes.proofs.moves.vmov.Statement.{statement}
-use Rattle.lanes.proofs.moves.vmov.Tie as tie
+use Rattle.lanes.proofs.moves.vmov.Goals as goal
 
-pub vmov_spec : {M : Type 1} → statement M
+pub returns : goal.returns
 unfolding mov_imm_unpacked unpacked_of mov_imm_lane listed how_many
-vmov_spec = tie.close (tie.spec (λ c. refl))
+returns c = refl
