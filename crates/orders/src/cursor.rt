@@ -125,6 +125,8 @@ impl<'a> Iterator for Texts<'a> {
     }
 }
 
+// ---- The same from a line and a place, for crates that ask about one text and go over none.
+
 // The text at a place, of no bytes where there is none.
 pub fn text(line: &[u8], at: usize) -> &[u8] {
     Cursor::new(line, at).text()

@@ -9,7 +9,7 @@ use text::squeeze::clean;
 // The longest line has fewer bytes. What is longer is none after the cut either, and its name stands at its start.
 const LONGEST: usize = 64;
 
-// The word of a line of names.
+// The word of a line of names. (No heap: what is left of the line is put into a room of fixed size, with its length beside it.)
 fn named(text: &[u8]) -> Result<u32, Wanted> {
     let mut room = [0u8; LONGEST + 1];
     let n = clean(&text[..text.len().min(LONGEST)], &mut room);

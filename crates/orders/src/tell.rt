@@ -10,6 +10,7 @@ use text::find::{feed, find};
 use text::say::{quote, say};
 
 // Puts the line of the opcode's word whose other bits are 0 at the start of out, and answers its length without line feed, if it has the name.
+// (No heap, as in word.rt.)
 fn example(op: u32, name: &[u8], out: &mut [u8]) -> Option<usize>
     ensures { IfSome result (λ n. IsPrefixLen n out.new) }
 {

@@ -6,6 +6,7 @@ use terms::End;
 use text::count::at_most;
 
 // Puts the line of a word, with its line feed, at the start of out, and answers its length, or why the word has none. 64 bytes are room enough for any.
+// (No heap: the room is the caller's, and the length stands beside it.)
 pub fn spell(word: u32, out: &mut [u8]) -> Result<usize, End>
     ensures { IfOk result (λ n. IsPrefixLen n out.new) }
 {
