@@ -50,6 +50,7 @@ impl Access {
     }
 
     // Number i of them.
+    #[tactic(auto, using(banks::proofs::Places::way_lt))]
     pub fn address(self, i: usize) -> usize
         requires { i < count_of self.way }
         ensures { result < 8192 }
