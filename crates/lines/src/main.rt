@@ -34,9 +34,7 @@ fn asked(rt: HostRuntime) -> Option<Job> {
 
 // Standard input, looked through for a fault first, so that nothing is written where there is one.
 fn run(rt: HostRuntime, job: Job, room: &mut [u8; 65536]) -> Result<(), Fault<'_>> {
-    let Ok(n) = fill(&mut rt.stdin(), room) else {
-        return Err(Fault::Unread);
-    };
+    let n = fill(&mut rt.stdin(), room).map_err(|_| Fault::Unread)?;
     if n > 65535 {
         return Err(Fault::Long);
     }

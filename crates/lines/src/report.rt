@@ -6,7 +6,7 @@ use orders::tell::examples;
 use std::io::Stderr;
 use terms::{End, Refusal};
 use text::find::{feed, find};
-use text::say::{decimal, quote, say};
+use text::say::{quote, say};
 use text::squeeze::clean;
 
 // What was expected in place of what is refused.
@@ -26,9 +26,7 @@ fn reason(err: Stderr, why: Why, line: &[u8]) {
             b"expected 1 to 8 hexadecimal digits, with or without 0x",
         ),
         Why::Refused(end) => {
-            say(err, b"refused, ");
-            decimal(err, u64::from(u32::from(end)));
-            say(err, b" (expected ");
+            let _ = print!(err; "refused, {} (expected ", u32::from(end));
             expected(err, end, line);
             say(err, b")");
         }
@@ -40,9 +38,7 @@ fn place(err: Stderr, at: Place<'_>) {
     let mut room = [0u8; 65536];
     let n = clean(at.text, &mut room);
     let left = &room[..n];
-    say(err, b"line ");
-    decimal(err, u64::from(at.line));
-    say(err, b": ");
+    let _ = print!(err; "line {}: ", at.line);
     quote(err, &left[..find(left, 0, feed)], 64);
     say(err, b": ");
     reason(err, at.why, left);
