@@ -45,7 +45,7 @@ impl Access for Row {
 
     const WAY: Way = Way::Horizontal;
 
-    // With two callers it would stay out of line.
+    // Each has two callers, and would stay out of line.
     #[inline(always)]
     fn load(n: usize, code: usize, x: usize, ds: &[u8; 8192], v: &mut [u8; 512]) {
         pieces::set_vreg(v, n, store::load_row(ds, code, x));
@@ -70,10 +70,12 @@ impl Access for Column {
 
     const WAY: Way = Way::Vertical;
 
+    #[tactic(auto, using(crate::proofs::Columns::pasted), unfolding(crate::specs::Inner::Effect::fetched, crate::specs::Inner::Effect::into_r, crate::specs::Inner::Effect::into_v))]
     fn load(n: usize, code: usize, x: usize, ds: &[u8; 8192], v: &mut [u8; 512]) {
         store::load_column(ds, code, x, &mut v[16 * n..16 * n + 16]);
     }
 
+    #[tactic(auto, using(pieces::proofs::Chunks::get_chunk), unfolding(crate::specs::Inner::Effect::kept, crate::specs::Inner::Effect::out_of, pieces::specs::Inner::Regs::vreg_of))]
     fn store(n: usize, code: usize, x: usize, ds: &mut [u8; 8192], v: &[u8; 512]) {
         store::store_column(ds, code, x, &v.as_chunks::<16>().0[n]);
     }
