@@ -85,7 +85,7 @@ same_word (x ∷ xs) = ap (λ (z : ℕ). x + z * 256) (same_word xs)
 
 put_into : (way : Way) (n : ℕ) (xs : List ℕ) (s : State)
     → put xlat (M.into way n xs).name (M.into way n xs).value s ≡ state s.ds s.a (into_r way n xs s.r) s.c s.vc (into_v way n xs s.v)
-unfolding into_r into_v with_vreg
+unfolding with_vreg
 put_into Horizontal n xs s = refl
 put_into Vertical n xs s = refl
 put_into Scalar n xs s = rw (same_word xs) refl
@@ -95,7 +95,7 @@ abbrev end : Prog Did → State → Done
 end m s = run xlat (m >>= (λ d. ret (done d))) s
 
 run_from : (way : Way) (n : ℕ) (f : List ℕ → Prog Did) (s : State) → end (M.from way n >>= f) s ≡ end (f (out_of way n s.r s.v)) s
-unfolding out_of vreg_of bytes_of
+unfolding vreg_of bytes_of
 run_from Horizontal n f s = refl
 run_from Vertical n f s = refl
 run_from Scalar n f s = refl
@@ -108,12 +108,10 @@ run_increment (Immediate i) f s = refl
 run_loading : (way : Way) (n c x : ℕ) (rest : List Write) (s : State)
     → end (M.loading way n c x rest) s
     ≡ done (record { writes = M.into way n (fetched way c x s.ds) ∷ rest; access = P.load way c (M.span way c x); clipped = 0 })
-unfolding fetched
 run_loading way n c x rest s = simp (run_bind, run_loads, gathered_is)
 
 puts_storing : (way : Way) (c x : ℕ) (xs : List ℕ) (rest : List Write) (s : State)
     → puts xlat (M.stores (M.span way c x) xs ++ rest) s ≡ puts xlat rest (state (kept way c x xs s.ds) s.a s.r s.c s.vc s.v)
-unfolding kept
 puts_storing way c x xs rest s = simp (puts_append, puts_stores, scattered_is)
 
 pairs : (c : ℕ) (l : List ℕ) → map (λ (b : Addr). pair_of b.stride b.addr) (under c l) ≡ map (pair_of c) l

@@ -1,5 +1,5 @@
 // The ways of an access: how each moves its bytes between the data store and a register.
-#![tactic(auto, unfolding(crate::specs::Inner::Effect::fetched, crate::specs::Inner::Effect::kept, crate::specs::Inner::Effect::into_r, crate::specs::Inner::Effect::into_v, crate::specs::Inner::Effect::out_of))]
+#![tactic(auto)]
 
 ghost use Rattle.std.specs.Prelude.{◌≡◌, ◌<◌, List, [], ℕ};
 ghost use Rattle.terms.specs.declared.Way.{Way};
@@ -70,12 +70,12 @@ impl Access for Column {
 
     const WAY: Way = Way::Vertical;
 
-    #[tactic(auto, using(crate::proofs::Columns::pasted), unfolding(crate::specs::Inner::Effect::fetched, crate::specs::Inner::Effect::into_r, crate::specs::Inner::Effect::into_v))]
+    #[tactic(auto, using(crate::proofs::Columns::pasted))]
     fn load(n: usize, code: usize, x: usize, ds: &[u8; 8192], v: &mut [u8; 512]) {
         store::load_column(ds, code, x, &mut v[16 * n..16 * n + 16]);
     }
 
-    #[tactic(auto, using(pieces::proofs::Chunks::get_chunk), unfolding(crate::specs::Inner::Effect::kept, crate::specs::Inner::Effect::out_of, pieces::specs::Inner::Regs::vreg_of))]
+    #[tactic(auto, using(pieces::proofs::Chunks::get_chunk), unfolding(pieces::specs::Inner::Regs::vreg_of))]
     fn store(n: usize, code: usize, x: usize, ds: &mut [u8; 8192], v: &[u8; 512]) {
         store::store_column(ds, code, x, &v.as_chunks::<16>().0[n]);
     }

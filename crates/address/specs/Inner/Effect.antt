@@ -35,25 +35,25 @@ inc_of (Register n) a = slice_index a n % 65536
 inc_of (Immediate i) a = low 16 i
 
 -- the bytes that an access reads, and the store after an access that writes
-unfoldable pub fetched : Way → ℕ → ℕ → List ℕ → List ℕ
+abbrev pub fetched : Way → ℕ → ℕ → List ℕ → List ℕ
 fetched way code x ds = loaded ds (places code (addresses way code x))
 
-unfoldable pub kept : Way → ℕ → ℕ → List ℕ → List ℕ → List ℕ
+abbrev pub kept : Way → ℕ → ℕ → List ℕ → List ℕ → List ℕ
 kept way code x bytes ds = stored ds (places code (addresses way code x)) bytes
 
 -- the loaded register's piece, by the way of the access
-unfoldable pub into_r : Way → ℕ → List ℕ → List ℕ → List ℕ
+abbrev pub into_r : Way → ℕ → List ℕ → List ℕ → List ℕ
 into_r Horizontal n bytes r = r
 into_r Vertical n bytes r = r
 into_r Scalar n bytes r = slice_set r n (word_of bytes)
 
-unfoldable pub into_v : Way → ℕ → List ℕ → List ℕ → List ℕ
+abbrev pub into_v : Way → ℕ → List ℕ → List ℕ → List ℕ
 into_v Horizontal n bytes v = with_vreg v n bytes
 into_v Vertical n bytes v = with_vreg v n bytes
 into_v Scalar n bytes v = v
 
 -- the stored register's bytes
-unfoldable pub out_of : Way → ℕ → List ℕ → List ℕ → List ℕ
+abbrev pub out_of : Way → ℕ → List ℕ → List ℕ → List ℕ
 out_of Horizontal n r v = vreg_of v n
 out_of Vertical n r v = vreg_of v n
 out_of Scalar n r v = bytes_of (slice_index r n)
