@@ -1,6 +1,4 @@
--- The laws of numbers made by a call for each index, of unsigned results that are never clipped, of the sixteen words of vadd9, and of a bit
--- operation on packed flags.
-pub mod FromFn
+-- The laws of unsigned results that are never clipped, of the sixteen words of vadd9, and of a bit operation on packed flags.
 pub mod Unclipped
 pub mod Words9
 pub mod Compared

@@ -3,7 +3,7 @@ use Rattle.std.proofs.Common.{rules, ◌∙◌}
 use Rattle.lane.specs.Lane.{logic_lane, logic_of}
 use Rattle.lanes.specs.Inner.Unpacked.{logic_unpacked}
 use Rattle.lanes.proofs.Unpacking.{moved}
-use Rattle.loops.proofs.FromFn.{from_fn_gives}
+use Rattle.lanes.proofs.FromFn.{from_fn_gives}
 use Rattle.loops.proofs.bitwise.vor.Goals as goal
 
 pub returns : goal.returns

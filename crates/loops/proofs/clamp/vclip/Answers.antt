@@ -4,7 +4,7 @@ use Rattle.lane.specs.Lane.{Lane, clip_lane}
 use Rattle.lane.proofs.Clamped.{clip_untold}
 use Rattle.lanes.specs.Inner.Unpacked.{sign_beside, clip_unpacked}
 use Rattle.lanes.proofs.Unpacking.{untold}
-use Rattle.loops.proofs.FromFn.{from_fn_gives}
+use Rattle.lanes.proofs.FromFn.{from_fn_gives}
 use Rattle.loops.proofs.clamp.vclip.Goals as goal
 
 pub returns : goal.returns

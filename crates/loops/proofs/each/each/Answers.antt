@@ -1,6 +1,6 @@
 -- `loops::each::each` meets its contract.
 use Rattle.std.proofs.Common.{rules, get_or}
-use Rattle.loops.proofs.FromFn.{from_fn_gives}
+use Rattle.lanes.proofs.FromFn.{from_fn_gives}
 use Rattle.loops.proofs.each.each.Goals as goal
 
 pub returns : goal.returns

@@ -4,7 +4,7 @@ use Rattle.lane.specs.Lane.{Lane, saturated, add9_lane}
 use Rattle.lanes.specs.Inner.Unpacked.{sign_beside}
 use Rattle.lanes.proofs.Counting.{tallied}
 use Rattle.lanes.proofs.Unpacking.{made}
-use Rattle.loops.proofs.FromFn.{from_fn_gives}
+use Rattle.lanes.proofs.FromFn.{from_fn_gives}
 use Rattle.loops.proofs.Words9.{by_words}
 use Rattle.loops.proofs.nine.vadd9.Goals as goal
 

@@ -1,6 +1,6 @@
 -- `loops::select::words` meets its contract.
 use Rattle.std.proofs.Common.{rules}
-use Rattle.loops.proofs.FromFn.{from_fn_gives}
+use Rattle.lanes.proofs.FromFn.{from_fn_gives}
 use Rattle.loops.proofs.select.words.Goals as goal
 
 pub returns : goal.returns
