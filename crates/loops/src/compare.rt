@@ -16,7 +16,7 @@ pub fn vcmpad(op: u8, input: u16, a: [u8; 16], other: [u8; 16], b: [u8; 16]) -> 
     let differ = each(|x, y| x ^ y, d, other);
     let less = each(|x, y| either(x < y, 255, 0), d, other);
     let w = packed::flags(differ, less);
-    let signs = bits::bitop32(op, input as u32, w % 65536) % 65536;
+    let signs = bits::bitop32(op, u32::from(input), w % 65536) % 65536;
     Flags {
         signs: signs as u16,
         zeros: (w / 65536) as u16,

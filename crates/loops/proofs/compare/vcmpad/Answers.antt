@@ -7,4 +7,4 @@ use Rattle.loops.proofs.compare.vcmpad.Goals as goal
 pub returns : goal.returns
 returns c =
     compared _ _ _ _ _ (c.each-d.ensures apart (λ x y r u v p. search rules)) (c.each-differ.ensures bit_xor (λ x y r u v p. search rules))
-    (c.each-less.ensures (λ x y. cond (ltb x y) 255 0) (λ x y r u v p. search rules)) c.flags-w.ensures c.bitop32-signs.ensures
+    (c.each-less.ensures (λ x y. cond (ltb x y) 255 0) (λ x y r u v p. search rules)) c.flags-w.ensures (cc)
