@@ -28,7 +28,7 @@ fn base_at(a: &[u32; 32], n: usize) -> Base
     pieces::base_of(a[n])
 }
 
-// What is added to addr: the low half of a register, or of the immediate.
+// What is added to addr: the low half of a register, or of the immediate. (`BoundedI` is no type's: the model's instructions hold a `words::Increment` too, of any number.)
 #[tactic(auto, unfolding(crate::specs::Inner::Effect::inc_of))]
 fn increment(inc: Increment, a: &[u32; 32]) -> u16
     requires { BoundedI inc }
@@ -135,7 +135,7 @@ pub fn bitop(word: u32, a: &mut [u32; 32], c: &mut [u32; 4]) -> Counted
     put_result(f, bits::bitop32(f.bitop, a[f.src1], a[f.src2]), a, c)
 }
 
-// ldvh, ldvv and lds.
+// ldvh, ldvv and lds. What follows each such function names its instructions, with the equation of each.
 fn ld<W: Access>(
     word: u32,
     ds: &[u8; 8192],

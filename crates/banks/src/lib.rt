@@ -10,7 +10,7 @@ ghost use Rattle.banks.specs.Inner.Access.{cells_of};
 use terms::Way;
 
 // k of document 01, by stride code: the address shifted to the right by the first number, then masked by the second; of its thirteen bits only
-// code 0's mask drops any.
+// code 0's mask drops any. (A code is a number below 4 and no type of its own: it is two bits of a word, and the definitions go by numbers.)
 const TURNS: [(u8, u8); 4] = [(5, 0x07), (5, 0xff), (6, 0x7f), (7, 0x3f)];
 
 // What the low four bits of an address are moved on by.
