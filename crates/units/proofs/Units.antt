@@ -6,8 +6,10 @@ use Rattle.words.specs.Address.{Address}
 use Rattle.words.specs.Vector.{Vector}
 use Rattle.terms.specs.Inner.Runs.{amount}
 use Rattle.terms.specs.declared.Counts.{Counts}
-use Rattle.terms.specs.declared.Answer.{Answer}
-use Rattle.terms.specs.declared.Answer.TheVariants as X
+use Rattle.std.specs.Prelude.{Ok}
+use Rattle.std.specs.declared.result.Result.{Result}
+use Rattle.terms.specs.declared.Counted.{Counted}
+use Rattle.terms.specs.declared.Refusal.{Refusal}
 use Rattle.terms.specs.declared.Counted.TheVariants.{Nothing}
 use Rattle.words.specs.Insn.{Insn}
 use Rattle.words.specs.Insn as N
@@ -30,23 +32,23 @@ unfolding A.result_of
 widen i p q g h k z f = ap (λ (z : A.Result). A.result_from z.counted (g z.after)) f ∙ rw (h, k) refl
 
 module _ (s : State) where
-  pub idling : answered (X.Done Nothing) s ≡ by_insn N.Nop s
+  pub idling : answered (Ok Nothing) s ≡ by_insn N.Nop s
   unfolding stepped
   idling = refl
 
   pub vectoring : (i : Vector) {z : P.Result} → z ≡ U.result_of i (P.vectors s.vc s.v)
-      → answered (X.Done z.counted) (state s.ds s.a s.r s.c z.after.vc z.after.v) ≡ by_insn (N.Vector i) s
+      → answered (Ok z.counted) (state s.ds s.a s.r s.c z.after.vc z.after.v) ≡ by_insn (N.Vector i) s
   unfolding U.result_of
   vectoring i f =
-      ap (λ (z : P.Result). answered (X.Done z.counted) (state s.ds s.a s.r s.c z.after.vc z.after.v)) f
+      ap (λ (z : P.Result). answered (Ok z.counted) (state s.ds s.a s.r s.c z.after.vc z.after.v)) f
       ∙ rw (vector.closed i s) refl
 
   pub addressing : (g : Pieces → Pieces) (p : Pieces) (i : Address) {z : A.Result} → z ≡ A.result_of i p
       → counted_in i p.a ≡ counted_in i s.a → g (addressed i p) ≡ addressed i (five s.ds s.a s.r s.c s.v)
-      → answered (X.Done z.counted) (state (g z.after).ds (g z.after).a (g z.after).r (g z.after).c s.vc (g z.after).v) ≡ by_insn (N.Address i) s
+      → answered (Ok z.counted) (state (g z.after).ds (g z.after).a (g z.after).r (g z.after).c s.vc (g z.after).v) ≡ by_insn (N.Address i) s
   unfolding A.result_of
   addressing g p i {z} f k l =
-      ap (λ (z : A.Result). answered (X.Done z.counted) (state z.after.ds z.after.a z.after.r z.after.c s.vc z.after.v)) (widen i p _ g k l z f)
+      ap (λ (z : A.Result). answered (Ok z.counted) (state z.after.ds z.after.a z.after.r z.after.c s.vc z.after.v)) (widen i p _ g k l z f)
       ∙ rw (address.closed i s) refl
 
   -- what a step counts is what the model counts
@@ -66,6 +68,6 @@ module _ (word side mask : ℕ) (s : State) where
   by_row d e = rw e refl
 
   -- the outcome of a triple's answer
-  pub outcome_of_lem : {x : Answer} {t : State} → answered x t ≡ answered_of word side mask s → answer_outcome x t ≡ triple_of word side mask s
+  pub outcome_of_lem : {x : Result Counted Refusal} {t : State} → answered x t ≡ answered_of word side mask s → answer_outcome x t ≡ triple_of word side mask s
   unfolding answered_of triple_of
   outcome_of_lem e = ap (λ (a : Answered). answer_outcome a.answer a.after) e ∙ decoded_outcome s (decode_of word side mask)
