@@ -6,8 +6,8 @@ use Rattle.terms.specs.Counts.{none, plus, Within}
 use Rattle.terms.specs.declared.Counted.{Counted}
 use Rattle.terms.specs.declared.Counts.{Counts}
 use Rattle.terms.specs.declared.Refusal.{Refusal}
-use Rattle.terms.specs.declared.Answer.{Answer}
-use Rattle.terms.specs.declared.Answer.TheVariants as A
+use Rattle.std.specs.Prelude.{Ok, Err}
+use Rattle.std.specs.declared.result.Result.{Result}
 use Rattle.terms.specs.declared.End.TheVariants as E
 use Rattle.terms.proofs.Sums.{within_plus, within_le}
 use Rattle.pieces.specs.State.{State}
@@ -33,7 +33,7 @@ module _ {ws : List ℕ} {b end : ℕ} {s₀ s : State} {k : Counts} {i : ℕ} (
   here l = rw q.till (inside ws b i (i / 3) q.at (rw (← q.till) l))
 
   -- x and t are the triple's answer and the state after it
-  module _ (l : i < end) (x : Answer) (t : State)
+  module _ (l : i < end) (x : Result Counted Refusal) (t : State)
       (e : answered x t ≡ answered_of (get_or ws i 0) (get_or ws (i + 1) 0) (get_or ws (i + 2) 0) s) where
     told : answer_outcome x t ≡ triple_of (get_or ws i 0) (get_or ws (i + 1) 0) (get_or ws (i + 2) 0) s
     told = outcome_of_lem _ _ _ s e
@@ -41,14 +41,14 @@ module _ {ws : List ℕ} {b end : ℕ} {s₀ s : State} {k : Counts} {i : ℕ} (
     unspent : i / 3 ≡ b → ⊥
     unspent f = let h = (here l).1 in let z : ⊥ = omega arith in z
 
-    together : (m : Counted) → x ≡ A.Done m → Within (i / 3 + 1) (plus k (amount m))
+    together : (m : Counted) → x ≡ Ok m → Within (i / 3 + 1) (plus k (amount m))
     together m d = within_plus (i / 3) 1 k (amount m) q.counted (cheap x t _ _ _ s told m d)
 
     -- the sum of the counts does not overflow
-    pub fits : b < 2 ^ 32 → (m : Counted) → x ≡ A.Done m → Within most (plus k (amount m))
+    pub fits : b < 2 ^ 32 → (m : Counted) → x ≡ Ok m → Within most (plus k (amount m))
     fits f m d = within_le (i / 3 + 1) most (plus k (amount m)) (omega (arith, (here l).1, f)) (together m d)
 
-    pub next : (m : Counted) → x ≡ A.Done m → {n : Counts} → n ≡ plus k (amount m) → Turned ws b end s₀ t n (i + 3)
+    pub next : (m : Counted) → x ≡ Ok m → {n : Counts} → n ≡ plus k (amount m) → Turned ws b end s₀ t n (i + 3)
     next m d f =
         let third : (i + 3) / 3 ≡ i / 3 + 1 = omega arith in
         record {
@@ -59,7 +59,7 @@ module _ {ws : List ℕ} {b end : ℕ} {s₀ s : State} {k : Counts} {i : ℕ} (
           same = rw (third, f) (sym (turn b ws i (i / 3) k s (here l).0 x t told unspent m d) ∙ q.same);
         }
 
-    pub off : (j : Refusal) → x ≡ A.Refused j → ended (number (end_of x)) (i / 3) k t ≡ run_from b (triples ws) 0 none s₀
+    pub off : (j : Refusal) → x ≡ Err j → ended (number (end_of x)) (i / 3) k t ≡ run_from b (triples ws) 0 none s₀
     off j d = sym (halt b ws i (i / 3) k s (here l).0 x t told unspent j d) ∙ q.same
 
   -- the steps are fewer than a budget can be

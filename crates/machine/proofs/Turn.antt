@@ -10,41 +10,21 @@ use lib.Dec.{eqb, ltb}
 use lib.ListN.{length, get_or, drop}
 use Rattle.terms.specs.declared.Refusal.{Refusal}
 use Rattle.terms.specs.declared.Refusal.TheVariants.{Foreign, Undocumented, SideIndex, SideMask}
-use Rattle.pieces.specs.State.{State, Sized, sized_of}
+use Rattle.pieces.specs.State.{State}
 use Rattle.model.specs.Step.{Outcome, refusal, triple_of}
-use Rattle.model.specs.Run.{RunOutcome, triples, ended, run_from, run_of}
-use Rattle.pieces.proofs.Right.{sized_if}
-use Rattle.terms.proofs.Sums.{and_true}
+use Rattle.model.specs.Run.{RunOutcome, triples, ended, run_from}
 use Rattle.model.proofs.Cells.{triple_within}
 use Rattle.model.proofs.Triples.{triples_at, triples_end}
 use Rattle.units.specs.Inner.Answers.{answer_outcome}
 use Rattle.machine.specs.Inner.Turns.{covered_by}
 use Rattle.terms.specs.Answers.{number}
 use Rattle.terms.specs.Inner.Runs.{end_of, counts_in, amount}
-use Rattle.terms.specs.Counts.{none, plus, Within}
+use Rattle.terms.specs.Counts.{plus, Within}
 use Rattle.terms.specs.declared.Counted.{Counted}
 use Rattle.terms.specs.declared.Counts.{Counts}
-use Rattle.terms.specs.declared.Answer.{Answer}
-use Rattle.terms.specs.declared.Answer.TheVariants as A
+use Rattle.std.specs.Prelude.{Ok, Err}
+use Rattle.std.specs.declared.result.Result.{Result}
 use Rattle.terms.specs.declared.End.TheVariants as E
-
--- both tests at the start pass, or one fails; sized is what the first of them says
-module _ (b : ℕ) (ws : List ℕ) (s : State) (sized : Bool) (e : sized ≡ sized_of s) where
-  pub fit : (sized && eqb (length ws % 3) 0) ≡ true → Sized s × (length ws % 3 ≡ 0) × (run_from b (triples ws) 0 none s ≡ run_of b ws s)
-  unfolding run_of
-  fit f =
-      let t = and_true sized (eqb (length ws % 3) 0) f in
-      let u = sym e ∙ t.0 in
-      (sized_if s u, eqb-true (length ws % 3) 0 t.1, rw (u, t.1) refl)
-
-  pub unfit : (sized && eqb (length ws % 3) 0) ≡ false → ended (number (cond sized E.Ragged E.Lengths)) 0 none s ≡ run_of b ws s
-  unfolding run_of
-  unfit f = rw (← e) (go sized (eqb (length ws % 3) 0) f)
-    where
-      go : (x y : Bool) → (x && y) ≡ false → ended (number (cond x E.Ragged E.Lengths)) 0 none s ≡ cond x (cond y (run_from b (triples ws) 0 none s) (ended 6 0 none s)) (ended 5 0 none s)
-      go true true f = absurd (true≢false f)
-      go true false f = refl
-      go false y f = refl
 
 -- a refusal's number is not 0
 stops : (k : Refusal) (u v : RunOutcome) → cond (eqb (refusal k) 0) u v ≡ v
@@ -64,12 +44,12 @@ module _ (b : ℕ) (ws : List ℕ) (i n : ℕ) (k : Counts) (s : State) where
     spent e = rw (triples_at ws i h, eq-eqb n b e) refl
 
     -- x and t are the triple's answer and the state after it
-    module _ (x : Answer) (t : State) (e : answer_outcome x t ≡ triple_of (get_or ws i 0) (get_or ws (i + 1) 0) (get_or ws (i + 2) 0) s) (f : n ≡ b → ⊥) where
-      pub turn : (m : Counted) → x ≡ A.Done m → run_from b (triples (drop i ws)) n k s ≡ run_from b (triples (drop (i + 3) ws)) (n + 1) (plus k (amount m)) t
+    module _ (x : Result Counted Refusal) (t : State) (e : answer_outcome x t ≡ triple_of (get_or ws i 0) (get_or ws (i + 1) 0) (get_or ws (i + 2) 0) s) (f : n ≡ b → ⊥) where
+      pub turn : (m : Counted) → x ≡ Ok m → run_from b (triples (drop i ws)) n k s ≡ run_from b (triples (drop (i + 3) ws)) (n + 1) (plus k (amount m)) t
       unfolding run_from
       turn m d = rw (triples_at ws i h, ne_eqb n b f, ← e, d) refl
 
-      pub halt : (j : Refusal) → x ≡ A.Refused j → run_from b (triples (drop i ws)) n k s ≡ ended (number (end_of x)) n k t
+      pub halt : (j : Refusal) → x ≡ Err j → run_from b (triples (drop i ws)) n k s ≡ ended (number (end_of x)) n k t
       unfolding run_from
       halt j d = rw (triples_at ws i h, ne_eqb n b f, ← e, d) (stops j _ _)
 
@@ -104,6 +84,6 @@ module _ (ws : List ℕ) (b i n : ℕ) (at : i ≡ n * 3) where
           ]
 
 -- a triple counts no more than one step may
-pub cheap : (x : Answer) (t : State) (w side mask : ℕ) (s : State) → answer_outcome x t ≡ triple_of w side mask s → (m : Counted) → x ≡ A.Done m → Within 1 (amount m)
+pub cheap : (x : Result Counted Refusal) (t : State) (w side mask : ℕ) (s : State) → answer_outcome x t ≡ triple_of w side mask s → (m : Counted) → x ≡ Ok m → Within 1 (amount m)
 cheap x t w side mask s e m d =
-    subst (λ (y : Answer). Within 1 (counts_in y)) d (subst (λ (o : Outcome). Within 1 o.counts) (sym e) (triple_within w side mask s))
+    subst (λ (y : Result Counted Refusal). Within 1 (counts_in y)) d (subst (λ (o : Outcome). Within 1 o.counts) (sym e) (triple_within w side mask s))

@@ -2,14 +2,14 @@
 #![tactic(auto)]
 
 ghost use Rattle.std.specs.Prelude.{◌≡◌, cond, ◌%◌, ltb, length};
-ghost use Rattle.pieces.specs.State.{state, Sized};
+ghost use Rattle.pieces.specs.State.{state};
 ghost use Rattle.model.specs.Step.{step_of};
 ghost use Rattle.model.specs.Run.{triples, run_from, run_of};
 ghost use Rattle.terms.specs.Counts.{none};
 ghost use Rattle.machine.specs.Answers.{step_outcome, run_outcome};
 ghost use Rattle.machine.specs.Inner.Turns.{covered_by, ran_of};
 
-use terms::{Answer, Counts, End};
+use terms::{Counts, End};
 
 // What the single call came to.
 #[derive(Clone, Copy)]
@@ -48,43 +48,36 @@ pub fn ending(n: usize, count: usize) -> End
     if n < count { End::Spent } else { End::Done }
 }
 
-// The loop over the triples, where the lengths are right. It stands in a function of its own: in one that also returns early its calls count as cold.
+// The loop over the triples, on pieces of right lengths. It stands in a function of its own: in one that also returns early its calls count as cold.
 fn turns(
     words: &[u32],
     budget: u32,
-    ds: &mut [u8],
-    a: &mut [u32],
-    r: &mut [u32],
-    c: &mut [u32],
-    vc: &mut [u32],
-    v: &mut [u8],
+    ds: &mut [u8; 8192],
+    a: &mut [u32; 32],
+    r: &mut [u32; 32],
+    c: &mut [u32; 4],
+    vc: &mut [u32; 4],
+    v: &mut [u8; 512],
 ) -> Ran
-    requires { Sized (state ds.old a.old r.old c.old vc.old v.old) × (length words.now % 3 ≡ 0) }
+    requires { length words.now % 3 ≡ 0 }
     ensures { run_outcome result (state ds.new a.new r.new c.new vc.new v.new)
         ≡ run_from budget (triples words.now) 0 none (state ds.old a.old r.old c.old vc.old v.old) }
 {
     let end = covered(words.len(), budget);
-    let mut counts = terms::no_counts();
+    let mut counts = Counts::default();
     let mut i: usize = 0;
     while i < end {
         let x = units::triple(words[i], words[i + 1], words[i + 2], ds, a, r, c, vc, v);
-        let Answer::Done(n) = x else {
+        let Ok(n) = x else {
             return report(terms::end_of(x), (i / 3) as u32, counts);
         };
-        counts = terms::more(counts, n);
+        counts = counts.more(n);
         i += 3;
     }
     report(ending(i, words.len()), (i / 3) as u32, counts)
 }
 
-// Why a list is not begun: the lengths are looked at before the number of words.
-pub fn unfit(sized: bool) -> End
-    ensures { result ≡ cond sized End.Ragged End.Lengths }
-{
-    if sized { End::Ragged } else { End::Lengths }
-}
-
-// The list call: the lengths and the number of words are tested once.
+// The list call: the lengths and the number of words are tested once. Where one of them is wrong nothing is begun; the lengths are looked at first.
 pub fn run(
     words: &[u32],
     budget: u32,
@@ -98,12 +91,29 @@ pub fn run(
     ensures { run_outcome result (state ds.new a.new r.new c.new vc.new v.new)
         ≡ run_of budget words.now (state ds.old a.old r.old c.old vc.old v.old) }
 {
-    let sized = pieces::sized(ds.len(), a.len(), r.len(), c.len(), vc.len(), v.len());
-    let whole = words.len() % 3 == 0;
-    if sized & whole {
-        return turns(words, budget, ds, a, r, c, vc, v);
+    let unfit = report(End::Lengths, 0, Counts::default());
+    let Some(ds) = ds.as_mut_array() else {
+        return unfit;
+    };
+    let Some(a) = a.as_mut_array() else {
+        return unfit;
+    };
+    let Some(r) = r.as_mut_array() else {
+        return unfit;
+    };
+    let Some(c) = c.as_mut_array() else {
+        return unfit;
+    };
+    let Some(vc) = vc.as_mut_array() else {
+        return unfit;
+    };
+    let Some(v) = v.as_mut_array() else {
+        return unfit;
+    };
+    if words.len() % 3 != 0 {
+        return report(End::Ragged, 0, Counts::default());
     }
-    report(unfit(sized), 0, terms::no_counts())
+    turns(words, budget, ds, a, r, c, vc, v)
 }
 
 // The single call: a list of one triple, so that the code for all instructions stands in one loop.

@@ -13,8 +13,8 @@ loop-i-init c = record {
   till = c.covered-end.ensures;
   at = refl;
   within = zero-le;
-  counted = rw c.no_counts-counts.ensures (within_none 0);
-  same = rw c.no_counts-counts.ensures refl;
+  counted = rw c.default-counts.ensures (within_none 0);
+  same = rw c.default-counts.ensures refl;
 }
 
 pub bounds-words-i-in-loop-i : goal.bounds-words-i-in-loop-i
@@ -31,10 +31,10 @@ returns-in_default c =
     ∙ off c.loop-i.invariant c.loop-i-test.true c.triple-x.result after c.triple-x.ensures c.in_default.field-0 c.in_default.is)
 
 pub more-counts-requires : goal.more-counts-requires
-more-counts-requires c = fits c.loop-i.invariant c.loop-i-test.true c.triple-x.result _ c.triple-x.ensures c.ranges.budget.fits c.in-Done.n c.in-Done.is
+more-counts-requires c = fits c.loop-i.invariant c.loop-i-test.true c.triple-x.result _ c.triple-x.ensures c.ranges.budget.fits c.in-Ok.n c.in-Ok.is
 
 pub loop-i-preserved : goal.loop-i-preserved
-loop-i-preserved c = next c.loop-i.invariant c.loop-i-test.true c.triple-x.result _ c.triple-x.ensures c.in-Done.n c.in-Done.is c.more-counts.ensures
+loop-i-preserved c = next c.loop-i.invariant c.loop-i-test.true c.triple-x.result _ c.triple-x.ensures c.in-Ok.n c.in-Ok.is c.more-counts.ensures
 
 pub overflow_cast-i-2 : goal.overflow_cast-i-2
 overflow_cast-i-2 c = record { fits = few c.loop-i.invariant c.ranges.budget.fits }
@@ -44,4 +44,4 @@ returns c =
     let now : State = state c.loop-i.ds c.loop-i.a c.loop-i.r c.loop-i.c c.loop-i.vc c.loop-i.v in
     said now c.report-2.ensures
     (ap (λ (x : End). ended (number x) (c.loop-i.i / 3) c.loop-i.counts now) c.ending.ensures
-    ∙ last c.loop-i.invariant c.requires.1 c.loop-i-test.false)
+    ∙ last c.loop-i.invariant c.requires c.loop-i-test.false)
