@@ -4,9 +4,10 @@ use mathlib.Core.Bool.{Bool, true, false, cond}
 use mathlib.Core.List.{List, [], ◌++◌}
 use Prim.Native.Nat.{ℕ, zero, suc, ◌+◌, ◌-◌, ◌≤◌, ◌<◌}
 use native.Mathlib.Omega.{arith}
-use native.Mathlib.Nat.{not-suc-le-zero}
-use native.Mathlib.Decide.{ℕ_discrete}
+use native.Mathlib.Nat.{not-suc-le-zero, min-eq_left, min-eq_right, min-le_left, min-le_right}
+use native.Mathlib.Decide.{ℕ_discrete, dec_lt}
 use borrow.Author.Tests.{ltb-true, ltb-false}
+use Rattle.std.specs.Prelude.{min}
 use lib.Dec.{ltb}
 use lib.ListN.{length, get_or, take, drop, set, length-set, length-append, length-drop, get_or-append, get_or-eq_default}
 use lib.Seq.{length-take-le, take_all, take_at, drop-drop, drop-append-add, take-append-add, get_or-take, get_or-drop, get_or-append-add, get_or-set_same, get_or-set_other, ext_get_or, paste}
@@ -84,17 +85,20 @@ padded l h = filled_twelve {l = l} (record { size = length-append l (drop (lengt
         ∙ sym (get_or-eq_default l 0 (g refl))
 
 -- of those that come after l, no more are looked at than there is room for
-fitting : (l bs : List ℕ) (n : ℕ) → length l ≤ 12 → n ≡ cond (ltb (length bs) (12 - length l)) (length bs) (12 - length l) → twelve (l ++ take n bs) ≡ twelve (l ++ bs)
-fitting l bs n h q = rw q (go (ltb (length bs) (12 - length l)) (ltb-false (length bs) (12 - length l)))
+fitting : (l bs : List ℕ) (n : ℕ) → length l ≤ 12 → n ≡ min (length bs) (12 - length l) → twelve (l ++ take n bs) ≡ twelve (l ++ bs)
+fitting l bs n h q = elim (dec_lt (length bs) (12 - length l)) [ yes u ↦ all u | no u ↦ some (omega (arith, u)) ]
   where
-    go : (t : Bool) → (t ≡ false → 12 - length l ≤ length bs) → twelve (l ++ take (cond t (length bs) (12 - length l)) bs) ≡ twelve (l ++ bs)
-    go true f = ap (λ (m : List ℕ). twelve (l ++ m)) (take_all (length bs) bs (omega arith))
-    go false f =
-        let e : length l + (12 - length l) ≡ 12 = omega arith in
-        let m : List ℕ = l ++ take (12 - length l) bs in
-        let size : length m ≡ 12 = length-append l (take (12 - length l) bs) ∙ rw (length-take-le (12 - length l) bs (f refl)) e in
-        let all : take 12 (l ++ bs) ≡ m = ap (λ (k : ℕ). take k (l ++ bs)) (sym e) ∙ take-append-add l bs (12 - length l) in
-        twelve_first m (omega (arith, size)) ∙ take_all 12 m (omega (arith, size)) ∙ sym all ∙ sym (twelve_first (l ++ bs) (rw (length-append l bs) (omega (arith, f refl))))
+    all : length bs < 12 - length l → twelve (l ++ take n bs) ≡ twelve (l ++ bs)
+    all u = ap (λ (m : List ℕ). twelve (l ++ m)) (take_all n bs (omega (arith, q ∙ min-eq_left (omega (arith, u)))))
+
+    some : 12 - length l ≤ length bs → twelve (l ++ take n bs) ≡ twelve (l ++ bs)
+    some u =
+        let f : n ≡ 12 - length l = q ∙ min-eq_right u in
+        let e : length l + n ≡ 12 = omega (arith, f) in
+        let m : List ℕ = l ++ take n bs in
+        let size : length m ≡ 12 = length-append l (take n bs) ∙ rw (length-take-le n bs (omega (arith, f, u))) e in
+        let all : take 12 (l ++ bs) ≡ m = ap (λ (k : ℕ). take k (l ++ bs)) (sym e) ∙ take-append-add l bs n in
+        twelve_first m (omega (arith, size)) ∙ take_all 12 m (omega (arith, size)) ∙ sym all ∙ sym (twelve_first (l ++ bs) (rw (length-append l bs) (omega (arith, u))))
 
 module _ (held bs : List ℕ) (count n : ℕ) (size : length held ≡ 12) (few : count ≤ 12) where
   -- those that are left over are as many as their count says
@@ -102,14 +106,9 @@ module _ (held bs : List ℕ) (count n : ℕ) (size : length held ≡ 12) (few :
   left_length = length-take-le count held (omega (arith, size))
 
   -- those that are left over, and then as many of the others as there is room for
-  module _ (q : n ≡ cond (ltb (length bs) (12 - count)) (length bs) (12 - count)) where
+  module _ (q : n ≡ min (length bs) (12 - count)) where
     pub put_fits : (n ≤ length bs) × (count + n ≤ 12)
-    put_fits = go (ltb (length bs) (12 - count)) (ltb-true (length bs) (12 - count)) (ltb-false (length bs) (12 - count)) q
-      where
-        go : (t : Bool) → (t ≡ true → length bs < 12 - count) → (t ≡ false → 12 - count ≤ length bs) → n ≡ cond t (length bs) (12 - count)
-            → (n ≤ length bs) × (count + n ≤ 12)
-        go true f g e = (omega (arith, e), omega (arith, e, f refl))
-        go false f g e = (omega (arith, e, g refl), omega (arith, e, few))
+    put_fits = (omega (arith, q, min-le_left (length bs) (12 - count)), omega (arith, q, min-le_right (length bs) (12 - count), few))
 
     pub put_twice : paste (paste (twelve []) 0 held count) count bs n ≡ twelve (take count held ++ bs)
     put_twice =

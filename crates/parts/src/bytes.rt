@@ -1,5 +1,5 @@
 // The bytes of a part: words out of them, and twelve of them where a part begins and where it is left.
-ghost use Rattle.std.specs.Prelude.{◌≡◌, cond, ◌++◌, ◌+◌, ◌*◌, ◌<◌, ◌≤◌, ltb, length, take, drop};
+ghost use Rattle.std.specs.Prelude.{◌≡◌, ◌++◌, ◌+◌, ◌*◌, ◌<◌, ◌≤◌, length, take, drop};
 ghost use Rattle.std.proofs.Math.Seq.{paste};
 ghost use Rattle.model.specs.Parts.{first_words};
 ghost use Rattle.parts.specs.Run.{twelve};
@@ -17,9 +17,9 @@ fn word(bytes: &[u8], at: usize) -> u32
     store::joined(b0, b1, b2, b3)
 }
 
-// The n words of the bytes from `at` on, to the beginning of a buffer. (Of an array behind a reference the proof does not know the length by itself.)
+// The n words of the bytes from `at` on, to the beginning of a buffer.
 pub fn fill(words: &mut [u32; 480], bytes: &[u8], at: usize, n: usize)
-    requires { (length words.old ≡ 480) × (n ≤ 480) × (at + n * 4 ≤ length bytes.now) }
+    requires { (n ≤ 480) × (at + n * 4 ≤ length bytes.now) }
     ensures { words.new ≡ first_words n (drop at bytes.now) ++ drop n words.old }
 {
     for k in 0..n {
@@ -34,23 +34,14 @@ pub fn triple(bytes: [u8; 12]) -> [u32; 3]
     [word(&bytes, 0), word(&bytes, 4), word(&bytes, 8)]
 }
 
-// The first n bytes, put down in twelve from `at` on. (The compiler makes one copy of memory of it.)
+// The first n bytes, put down in twelve from `at` on.
 fn put(to: [u8; 12], at: usize, bytes: &[u8], n: usize) -> [u8; 12]
     requires { (at + n ≤ 12) × (n ≤ length bytes.now) }
     ensures { result ≡ paste to at bytes.now n }
 {
     let mut out = to;
-    for i in 0..n {
-        out[at + i] = bytes[i];
-    }
+    out[at..at + n].copy_from_slice(&bytes[..n]);
     out
-}
-
-// How many of n bytes there is room for.
-fn fitting(n: usize, room: usize) -> usize
-    ensures { result ≡ cond (ltb n room) n room }
-{
-    if n < room { n } else { room }
 }
 
 // The first twelve of those that are left over and those that come after them; 0 behind them. (That as many are left over as the count says is known
@@ -60,6 +51,6 @@ pub fn twelve(held: [u8; 12], count: usize, bytes: &[u8]) -> [u8; 12]
     ensures { (result ≡ twelve (take count held ++ bytes.now)) × (length (take count held) ≡ count) }
 {
     let left = put([0u8; 12], 0, &held, count);
-    let n = fitting(bytes.len(), 12 - count);
+    let n = bytes.len().min(12 - count);
     put(left, count, bytes, n)
 }

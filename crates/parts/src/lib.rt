@@ -6,7 +6,7 @@ mod stream; // stream.rt: whole triples, a buffer at a time
 pub mod sixteen; // sixteen.rt: the state as sixteen words, for C
 
 ghost use Rattle.std.specs.Prelude.{◌≡◌, cond, ◌<◌, eqb};
-ghost use Rattle.pieces.specs.State.{state, Sized};
+ghost use Rattle.pieces.specs.State.{state};
 ghost use Rattle.model.specs.Parts.{begun, fed, part_of, end_of};
 ghost use Rattle.parts.specs.Run.{answer_of, sound, meant_by, struct_of, given, handed};
 ghost use Rattle.parts.specs.Inner.Feed.{Open, open_of, going_by, kept_by, closing};
@@ -48,7 +48,7 @@ fn going(budget: u32, steps: u32, counts: Counts, count: usize, held: [u8; 12]) 
 pub fn begin(budget: u32) -> Run
     ensures { result ≡ struct_of (begun budget) }
 {
-    let counts = terms::no_counts();
+    let counts = Counts::default();
     let held = [0u8; 12];
     going(budget, 0, counts, 0, held)
 }
@@ -59,7 +59,7 @@ fn answer(x: Run) -> u32
 {
     let end = x.end;
     if x.over {
-        return terms::number(end);
+        return u32::from(end);
     }
     0
 }
@@ -69,23 +69,17 @@ fn sound(x: Run) -> bool
     ensures { result ≡ sound x }
 {
     let counts = x.counts;
-    (x.steps <= x.budget) & terms::within(x.steps, counts) & (x.count < 12) & (answer(x) <= 7)
+    (x.steps <= x.budget) & counts.within(x.steps) & (x.count < 12) & (answer(x) <= 7)
 }
 
 // A run that is over with an answer.
 fn kept(x: Run, end: End) -> Run
     ensures { result ≡ kept_by end x }
 {
-    let counts = x.counts;
-    let held = x.held;
     Run {
-        budget: x.budget,
         over: true,
         end,
-        steps: x.steps,
-        counts,
-        count: x.count,
-        held,
+        ..x
     }
 }
 
@@ -127,14 +121,14 @@ fn closing(budget: u32, x: Ran, rest: &[u8]) -> Run
 fn feed(
     x: Run,
     bytes: &[u8],
-    ds: &mut [u8],
-    a: &mut [u32],
-    r: &mut [u32],
-    c: &mut [u32],
-    vc: &mut [u32],
-    v: &mut [u8],
+    ds: &mut [u8; 8192],
+    a: &mut [u32; 32],
+    r: &mut [u32; 32],
+    c: &mut [u32; 4],
+    vc: &mut [u32; 4],
+    v: &mut [u8; 512],
 ) -> Run
-    requires { Sized (state ds.old a.old r.old c.old vc.old v.old) × Open x }
+    requires { Open x }
     ensures { given result (state ds.new a.new r.new c.new vc.new v.new)
         ≡ handed (fed bytes.now (open_of x) (state ds.old a.old r.old c.old vc.old v.old)) }
 {
@@ -178,11 +172,26 @@ pub fn part(
     if x.over {
         return x;
     }
-    let sized = pieces::sized(ds.len(), a.len(), r.len(), c.len(), vc.len(), v.len());
-    if sized {
-        return feed(x, bytes, ds, a, r, c, vc, v);
-    }
-    kept(x, End::Lengths)
+    let unfit = kept(x, End::Lengths);
+    let Some(ds) = ds.as_mut_array() else {
+        return unfit;
+    };
+    let Some(a) = a.as_mut_array() else {
+        return unfit;
+    };
+    let Some(r) = r.as_mut_array() else {
+        return unfit;
+    };
+    let Some(c) = c.as_mut_array() else {
+        return unfit;
+    };
+    let Some(vc) = vc.as_mut_array() else {
+        return unfit;
+    };
+    let Some(v) = v.as_mut_array() else {
+        return unfit;
+    };
+    feed(x, bytes, ds, a, r, c, vc, v)
 }
 
 // Why a run ends with so many bytes left over.

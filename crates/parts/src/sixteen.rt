@@ -1,18 +1,11 @@
 // The state of a run in parts as sixteen words of 32 bits, for C.
-ghost use Rattle.std.specs.Prelude.{◌≡◌, cond, ◌++◌, ◌+◌, ◌*◌, length};
+ghost use Rattle.std.specs.Prelude.{◌≡◌, ◌++◌, ◌+◌, ◌*◌};
 ghost use Rattle.model.specs.Address.{split};
 ghost use Rattle.parts.specs.Words.{worded, unworded};
 
 use crate::Run;
 use crate::bytes::triple;
-use terms::Counts;
-
-// A truth as a word.
-fn bit(t: bool) -> u32
-    ensures { result ≡ cond t 1 0 }
-{
-    if t { 1 } else { 0 }
-}
+use terms::{Counts, End};
 
 // The bytes of three words, low byte first.
 fn bytes(x: u32, y: u32, z: u32) -> [u8; 12]
@@ -42,8 +35,7 @@ fn wide(low: u32, high: u32) -> u64
 }
 
 // The run that sixteen words hold.
-pub fn load(words: &[u32]) -> Run
-    requires { length words.now ≡ 16 }
+pub fn load(words: &[u32; 16]) -> Run
     ensures { result ≡ unworded words.now }
 {
     let counts = Counts {
@@ -53,7 +45,7 @@ pub fn load(words: &[u32]) -> Run
     Run {
         budget: words[0],
         over: words[1] != 0,
-        end: terms::numbered(words[2]),
+        end: End::from(words[2]),
         steps: words[3],
         counts,
         count: words[6],
@@ -72,8 +64,8 @@ fn words(x: Run) -> [u32; 16]
     let clipped = x.counts.clipped;
     [
         x.budget,
-        bit(x.over),
-        terms::number(end),
+        u32::from(x.over),
+        u32::from(end),
         x.steps,
         (accesses % 4294967296) as u32,
         (accesses / 4294967296) as u32,
@@ -90,20 +82,9 @@ fn words(x: Run) -> [u32; 16]
     ]
 }
 
-// Sixteen words to where they are lent.
-fn copy(from: [u32; 16], to: &mut [u32])
-    requires { length to.old ≡ 16 }
-    ensures { to.new ≡ from }
-{
-    for k in 0..16 {
-        to[k] = from[k];
-    }
-}
-
 // Puts a run's words down.
-pub fn store(x: Run, to: &mut [u32])
-    requires { length to.old ≡ 16 }
+pub fn store(x: Run, to: &mut [u32; 16])
     ensures { to.new ≡ worded x }
 {
-    copy(words(x), to)
+    *to = words(x);
 }

@@ -1,6 +1,6 @@
 // Whole triples as bytes, one after the other: a buffer of words at a time, so that the machine's own loop does the steps.
 ghost use Rattle.std.specs.Prelude.{◌≡◌, true, not, ◌+◌, ◌<◌, ◌≤◌, eqb};
-ghost use Rattle.pieces.specs.State.{state, Sized};
+ghost use Rattle.pieces.specs.State.{state};
 ghost use Rattle.terms.specs.Answers.{number};
 ghost use Rattle.terms.specs.Counts.{plus, Within};
 ghost use Rattle.terms.specs.Inner.Runs.{most};
@@ -19,7 +19,7 @@ pub fn stopped(x: Ran) -> bool
     ensures { result ≡ not (eqb (number x.end) 0) }
 {
     let end = x.end;
-    terms::number(end) != 0
+    u32::from(end) != 0
 }
 
 // What was done before, and what a run did that went on from there.
@@ -33,7 +33,7 @@ fn added(x: Ran, y: Ran) -> Ran
     Ran {
         end,
         steps: x.steps + y.steps,
-        counts: terms::sum(before, now),
+        counts: before + now,
     }
 }
 
@@ -42,14 +42,14 @@ pub fn one(
     bytes: [u8; 12],
     budget: u32,
     from: Ran,
-    ds: &mut [u8],
-    a: &mut [u32],
-    r: &mut [u32],
-    c: &mut [u32],
-    vc: &mut [u32],
-    v: &mut [u8],
+    ds: &mut [u8; 8192],
+    a: &mut [u32; 32],
+    r: &mut [u32; 32],
+    c: &mut [u32; 4],
+    vc: &mut [u32; 4],
+    v: &mut [u8; 512],
 ) -> Ran
-    requires { Sized (state ds.old a.old r.old c.old vc.old v.old) × (from.steps ≤ budget) × Within from.steps from.counts × (eqb (number from.end) 0 ≡ true) }
+    requires { (from.steps ≤ budget) × Within from.steps from.counts × (eqb (number from.end) 0 ≡ true) }
     ensures { run_outcome result (state ds.new a.new r.new c.new vc.new v.new)
         ≡ onward budget (triples (words_of bytes)) (run_outcome from (state ds.old a.old r.old c.old vc.old v.old)) }
 {
@@ -70,14 +70,14 @@ pub fn stream(
     bytes: &[u8],
     budget: u32,
     from: Ran,
-    ds: &mut [u8],
-    a: &mut [u32],
-    r: &mut [u32],
-    c: &mut [u32],
-    vc: &mut [u32],
-    v: &mut [u8],
+    ds: &mut [u8; 8192],
+    a: &mut [u32; 32],
+    r: &mut [u32; 32],
+    c: &mut [u32; 4],
+    vc: &mut [u32; 4],
+    v: &mut [u8; 512],
 ) -> Ran
-    requires { Sized (state ds.old a.old r.old c.old vc.old v.old) × (from.steps ≤ budget) × Within from.steps from.counts }
+    requires { (from.steps ≤ budget) × Within from.steps from.counts }
     ensures { run_outcome result (state ds.new a.new r.new c.new vc.new v.new)
         ≡ onward budget (triples (words_of bytes.now)) (run_outcome from (state ds.old a.old r.old c.old vc.old v.old)) }
 {

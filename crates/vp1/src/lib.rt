@@ -32,7 +32,7 @@ pub extern "C" fn vp1_step(
     *accesses = x.counts.accesses;
     *clipped = x.counts.clipped;
     let end = x.end;
-    terms::number(end)
+    u32::from(end)
 }
 
 // A list of triples. Whatever the answer, the steps and what they count are written.
@@ -58,7 +58,7 @@ pub extern "C" fn vp1_run(
     *accesses = x.counts.accesses;
     *clipped = x.counts.clipped;
     let end = x.end;
-    terms::number(end)
+    u32::from(end)
 }
 
 // Begins a run of a list that arrives in parts. `run` is what is kept of it between the calls.
@@ -67,11 +67,11 @@ pub extern "C" fn vp1_begin(budget: u32, run: &mut [u32]) -> u32
     ensures { told result 0 none run.new ≡ begin_call budget run.old }
 {
     if run.len() != 16 {
-        return terms::number(End::Lengths);
+        return u32::from(End::Lengths);
     }
     let begun = parts::begin(budget);
     parts::sixteen::store(begun, run);
-    terms::number(End::Done)
+    u32::from(End::Done)
 }
 
 // A part of the list. Whatever the answer, the steps of the whole run so far and what they count are written.
@@ -97,7 +97,7 @@ pub extern "C" fn vp1_part(
         *steps = 0;
         *accesses = 0;
         *clipped = 0;
-        return terms::number(End::Lengths);
+        return u32::from(End::Lengths);
     }
     let fed = parts::part(parts::sixteen::load(run), bytes, ds, a, r, c, vc, v);
     parts::sixteen::store(fed, run);
@@ -105,7 +105,7 @@ pub extern "C" fn vp1_part(
     *accesses = fed.counts.accesses;
     *clipped = fed.counts.clipped;
     let end = fed.end;
-    terms::number(end)
+    u32::from(end)
 }
 
 // The end of the list, for which no piece is lent.
@@ -122,7 +122,7 @@ pub extern "C" fn vp1_end(
         *steps = 0;
         *accesses = 0;
         *clipped = 0;
-        return terms::number(End::Lengths);
+        return u32::from(End::Lengths);
     }
     let ended = parts::end(parts::sixteen::load(run));
     parts::sixteen::store(ended, run);
@@ -130,5 +130,5 @@ pub extern "C" fn vp1_end(
     *accesses = ended.counts.accesses;
     *clipped = ended.counts.clipped;
     let end = ended.end;
-    terms::number(end)
+    u32::from(end)
 }

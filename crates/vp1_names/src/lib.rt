@@ -12,7 +12,7 @@ pub extern "C" fn vp1_write_line(word: u32, out: &mut [u8], length: &mut u32) ->
     let x = names::write_line(word, out);
     *length = x.length;
     let end = x.end;
-    terms::number(end)
+    u32::from(end)
 }
 
 // The word of a line. Whatever the answer, the word is written.
@@ -23,5 +23,5 @@ pub extern "C" fn vp1_read_line(text: &[u8], word: &mut u32) -> u32
     let x = names::read_line(text);
     *word = x.word;
     let end = x.end;
-    terms::number(end)
+    u32::from(end)
 }

@@ -31,7 +31,7 @@ pub extern "C" fn vp1_places(
     *reads = x.reads;
     *writes = x.writes;
     let end = x.end;
-    terms::number(end)
+    u32::from(end)
 }
 
 // Two triples in one state. Whatever the answer, the verdict is written.
@@ -58,7 +58,7 @@ pub extern "C" fn vp1_may_swap(
 {
     let x = swap::may_swap(word1, side1, mask1, word2, side2, mask2, ds, a, r, c, vc, v);
     let end = x.end;
-    let n = terms::number(end);
+    let n = u32::from(end);
     let told = x.verdict;
     let Verdict::Clash(p, w) = told else {
         *clash = 0;

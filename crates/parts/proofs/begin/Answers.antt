@@ -7,4 +7,4 @@ use Rattle.parts.proofs.begin.Goals as goal
 
 pub returns : goal.returns
 unfolding struct_of
-returns c = c.going.ensures ∙ ap (λ (k : Counts). going_by c.args.budget 0 k 0 (twelve [])) c.no_counts-counts.ensures
+returns c = c.going.ensures ∙ ap (λ (k : Counts). going_by c.args.budget 0 k 0 (twelve [])) c.default-counts.ensures

@@ -7,5 +7,5 @@ returns-then-run-ne16 c = begin_unlent c.number.result c.args.run.now c.if-run-n
 
 pub returns : goal.returns
 returns c =
-    begin_told c.number-2.result c.args.run.now c.if-run-ne16.false c.begin-begun.result c.store.new.to c.store.ensures c.args.budget c.begin-begun.ensures
-    c.number-2.ensures
+    begin_told c.from-2.result c.args.run.now c.if-run-ne16.false c.begin-begun.result c.store.new.to c.store.ensures c.args.budget c.begin-begun.ensures
+    c.from-2.ensures

@@ -7,5 +7,5 @@ returns-then-run-ne16 c = end_unlent c.number.result c.args.run.now c.if-run-ne1
 
 pub returns : goal.returns
 returns c =
-    end_told c.number-2.result c.args.run.now c.if-run-ne16.false c.end-ended.result c.store.new.to c.store.ensures c.number-2.ensures c.load.result
+    end_told c.from-2.result c.args.run.now c.if-run-ne16.false c.end-ended.result c.store.new.to c.store.ensures c.from-2.ensures c.load.result
     c.load.ensures c.end-ended.ensures

@@ -12,5 +12,5 @@ pub returns : goal.returns
 returns c =
     let s : State = state c.args.ds.now c.args.a.now c.args.r.now c.args.c.now c.args.vc.now c.args.v.now in
     let t : State = state c.part-fed.new.ds c.part-fed.new.a c.part-fed.new.r c.part-fed.new.c c.part-fed.new.vc c.part-fed.new.v in
-    part_told_lem c.number-2.result c.args.run.now c.if-run-ne16.false c.part-fed.result c.store.new.to c.store.ensures c.number-2.ensures
+    part_told_lem c.from-2.result c.args.run.now c.if-run-ne16.false c.part-fed.result c.store.new.to c.store.ensures c.from-2.ensures
     c.args.bytes.now s t c.load.result c.load.ensures c.part-fed.ensures

@@ -5,7 +5,7 @@ use Rattle.parts.proofs.Fill.{word_drop, filled, filled_more}
 use Rattle.parts.proofs.bytes.fill.Goals as goal
 
 pub loop-k-init : goal.loop-k-init
-loop-k-init c = (c.requires.0, refl)
+loop-k-init c = (c.told-words, refl)
 
 pub loop-k-preserved : goal.loop-k-preserved
 loop-k-preserved c =
@@ -15,7 +15,7 @@ loop-k-preserved c =
     let x = c.word.ensures ∙ ap (λ (j : ℕ). word_at bs (c.args.at + j)) e ∙ sym (word_drop bs c.args.at (k * 4)) in (
       simp length-set c.loop-k.invariant.0,
       ap (λ (ws : List ℕ). set ws k c.word.result) c.loop-k.invariant.1
-          ∙ filled_more k c.word.result (drop c.args.at bs) c.args.words.now (omega (arith, c.requires.0, c.requires.1, c.loop-k-test.true)) x,
+          ∙ filled_more k c.word.result (drop c.args.at bs) c.args.words.now (omega (arith, c.told-words, c.requires.0, c.loop-k-test.true)) x,
     )
 
 pub returns : goal.returns

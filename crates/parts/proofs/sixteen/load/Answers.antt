@@ -5,4 +5,4 @@ use Rattle.parts.proofs.sixteen.load.Goals as goal
 
 pub returns : goal.returns
 unfolding unworded
-returns c = rw (c.numbered.ensures, c.wide.ensures, c.wide-2.ensures, c.bytes.ensures) refl
+returns c = rw (c.from.ensures, c.wide.ensures, c.wide-2.ensures, c.bytes.ensures) refl
