@@ -66,11 +66,10 @@ pub extern "C" fn vp1_run(
 pub extern "C" fn vp1_begin(budget: u32, run: &mut [u32]) -> u32
     ensures { told result 0 none run.new ≡ begin_call budget run.old }
 {
-    if run.len() != 16 {
+    let Some(kept) = run.as_mut_array() else {
         return u32::from(End::Lengths);
-    }
-    let begun = parts::begin(budget);
-    parts::sixteen::store(begun, run);
+    };
+    parts::sixteen::store(parts::begin(budget), kept);
     u32::from(End::Done)
 }
 
@@ -93,14 +92,14 @@ pub extern "C" fn vp1_part(
         (state ds.new a.new r.new c.new vc.new v.new)
         ≡ part_call bytes.now run.old (state ds.old a.old r.old c.old vc.old v.old) }
 {
-    if run.len() != 16 {
+    let Some(kept) = run.as_mut_array() else {
         *steps = 0;
         *accesses = 0;
         *clipped = 0;
         return u32::from(End::Lengths);
-    }
-    let fed = parts::part(parts::sixteen::load(run), bytes, ds, a, r, c, vc, v);
-    parts::sixteen::store(fed, run);
+    };
+    let fed = parts::part(parts::sixteen::load(kept), bytes, ds, a, r, c, vc, v);
+    parts::sixteen::store(fed, kept);
     *steps = fed.steps;
     *accesses = fed.counts.accesses;
     *clipped = fed.counts.clipped;
@@ -118,14 +117,14 @@ pub extern "C" fn vp1_end(
 ) -> u32
     ensures { told result steps.new (counts accesses.new clipped.new) run.new ≡ end_call run.old }
 {
-    if run.len() != 16 {
+    let Some(kept) = run.as_mut_array() else {
         *steps = 0;
         *accesses = 0;
         *clipped = 0;
         return u32::from(End::Lengths);
-    }
-    let ended = parts::end(parts::sixteen::load(run));
-    parts::sixteen::store(ended, run);
+    };
+    let ended = parts::end(parts::sixteen::load(kept));
+    parts::sixteen::store(ended, kept);
     *steps = ended.steps;
     *accesses = ended.counts.accesses;
     *clipped = ended.counts.clipped;
