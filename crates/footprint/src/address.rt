@@ -1,5 +1,5 @@
 // What an instruction of the address unit touches, by the kind of its operands, cut from the word.
-ghost use Rattle.std.specs.Prelude.{[], ◌∷◌, ◌++◌, ◌≡◌, ◌<◌, length};
+ghost use Rattle.std.specs.Prelude.{[], ◌∷◌, ◌++◌, ◌≡◌, ◌<◌};
 ghost use Rattle.words.specs.Inner.Bounded.{BoundedI};
 ghost use Rattle.words.specs.Fields.{fields_of};
 ghost use Rattle.words.specs.Table.{set_of, add_of, aadd_of, bitop_of, ld_of, st_of, lda_of, sta_of};
@@ -74,8 +74,7 @@ pub fn aadd(w: u32, side: u32) -> Touches
     }
 }
 
-pub fn load(way: Way, w: u32, a: &[u32]) -> Touches
-    requires { length a.now ≡ 32 }
+pub fn load(way: Way, w: u32, a: &[u32; 32]) -> Touches
     ensures { result ≡ addressed (ld_of (fields_of w) way) a.now }
 {
     let f = words::cut(w);
@@ -88,8 +87,7 @@ pub fn load(way: Way, w: u32, a: &[u32]) -> Touches
     }
 }
 
-pub fn store(way: Way, w: u32, a: &[u32]) -> Touches
-    requires { length a.now ≡ 32 }
+pub fn store(way: Way, w: u32, a: &[u32; 32]) -> Touches
     ensures { result ≡ addressed (st_of (fields_of w) way) a.now }
 {
     let f = words::cut(w);
@@ -103,8 +101,8 @@ pub fn store(way: Way, w: u32, a: &[u32]) -> Touches
     }
 }
 
-pub fn load_moving(way: Way, o: AccessAdd, a: &[u32]) -> Touches
-    requires { (length a.now ≡ 32) × BoundedI o.inc }
+pub fn load_moving(way: Way, o: AccessAdd, a: &[u32; 32]) -> Touches
+    requires { BoundedI o.inc }
     ensures { result ≡ addressed (lda_of (fields_of o.bits) way o.inc) a.now }
 {
     let f = words::cut(o.bits);
@@ -118,8 +116,8 @@ pub fn load_moving(way: Way, o: AccessAdd, a: &[u32]) -> Touches
     }
 }
 
-pub fn store_moving(way: Way, o: AccessAdd, a: &[u32]) -> Touches
-    requires { (length a.now ≡ 32) × BoundedI o.inc }
+pub fn store_moving(way: Way, o: AccessAdd, a: &[u32; 32]) -> Touches
+    requires { BoundedI o.inc }
     ensures { result ≡ addressed (sta_of (fields_of o.bits) way o.inc) a.now }
 {
     let f = words::cut(o.bits);

@@ -1,10 +1,10 @@
 // What an instruction touches, as a list of place numbers. docs/PLACES.md numbers the places.
 #![tactic(auto)]
 
-ghost use Rattle.std.specs.Prelude.{◌≡◌, length};
+ghost use Rattle.std.specs.Prelude.{◌≡◌, ◌≤◌};
 ghost use Rattle.words.specs.Inner.Bounded.{Bounded};
 ghost use Rattle.words.specs.Inner.Meant.{meant};
-ghost use Rattle.footprint.specs.Inner.Numbers.{lent, footprint_of};
+ghost use Rattle.footprint.specs.Inner.Numbers.{held, lent, footprint_of};
 
 use terms::{Half, Way};
 use words::Insn;
@@ -20,6 +20,16 @@ pub struct Numbers {
     pub count: usize,
 }
 
+impl Numbers {
+    // Those that are meant.
+    pub fn held(&self) -> &[u32]
+        requires { self.now.count ≤ 22 }
+        ensures { result.now ≡ held self.now }
+    {
+        &self.numbers[..self.count]
+    }
+}
+
 // What an instruction touches: the first `reads` of the list are read, the others written.
 #[derive(Clone, Copy)]
 pub struct Touches {
@@ -29,8 +39,8 @@ pub struct Touches {
 
 // What an instruction touches, where the registers that it names are there, as a decoded word's are.
 #[tactic(auto, unfolding(words::specs::Inner::Meant::meant, words::specs::Inner::Bounded::BoundedA))]
-pub fn footprint(i: Insn, a: &[u32]) -> Touches
-    requires { (length a.now ≡ 32) × Bounded (meant i) }
+pub fn footprint(i: Insn, a: &[u32; 32]) -> Touches
+    requires { Bounded (meant i) }
     ensures { result ≡ footprint_of (meant i) (lent a.now) }
 {
     match i {

@@ -1,5 +1,5 @@
 // A list of numbers with one place or a few more, each kind of place by its number.
-ghost use Rattle.std.specs.Prelude.{◌≡◌, [], ◌∷◌, ◌<◌, ◌+◌, length};
+ghost use Rattle.std.specs.Prelude.{◌≡◌, [], ◌∷◌, ◌<◌, ◌+◌};
 ghost use Rattle.banks.specs.Bank.{at as atBank};
 ghost use Rattle.banks.specs.Line.{count_of};
 ghost use Rattle.words.specs.Inner.Bounded.{BoundedI};
@@ -159,19 +159,16 @@ fn put_bytes(l: Numbers, way: Way, code: usize, addr: usize) -> Numbers
 {
     let start = banks::start(way, code, addr);
     let step = banks::step(way, code);
-    let count = count_of(way);
     let mut out = l;
-    let mut i = 0;
-    while i < count {
+    for i in 0..count_of(way) {
         out = push(out, byte_number(code, start + i * step));
-        i += 1;
     }
     out
 }
 
 // The bytes of an access at addr of $a[n] OR uimm.
-pub fn put_access(l: Numbers, way: Way, n: usize, uimm: u16, a: &[u32]) -> Numbers
-    requires { (length a.now ≡ 32) × (n < 32) }
+pub fn put_access(l: Numbers, way: Way, n: usize, uimm: u16, a: &[u32; 32]) -> Numbers
+    requires { n < 32 }
     ensures { Adds l (at_or xlat way n uimm (lent a.now)) result }
 {
     let b = pieces::base_of(a[n]);

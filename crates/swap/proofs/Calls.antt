@@ -23,19 +23,19 @@ use Rattle.footprint.specs.Inner.Numbers.{held, lent, footprint_of}
 use Rattle.footprint.specs.declared.Touches.{Touches}
 use Rattle.footprint.proofs.Foot.{numbers_of, lent_footprint, footprint_is, held_all, held_written, reads_le, writes_are}
 use Rattle.swap.specs.Answers.{told, swap_answer, list_answer}
-use Rattle.swap.specs.Inner.Calls.{first_of, stopped}
-use Rattle.swap.specs.declared.Found.{Found}
-use Rattle.swap.specs.declared.Found.TheVariants as F
-use Rattle.swap.specs.declared.Verdict.TheVariants as T
+use Rattle.std.specs.Prelude.{Some, None}
+use Rattle.std.specs.declared.option.Option.{Option}
+use Rattle.swap.specs.Inner.Calls.{first_of}
+use Rattle.swap.specs.declared.Clash.{Clash}
 use Rattle.swap.specs.declared.Swap.{Swap}
 use Rattle.swap.specs.declared.Listed.{Listed}
 
 -- ---- the search
 
 -- the verdict of a search, whose writer is w; v where nothing was found
-verdict_if : Found → ℕ → Verdict → Verdict
-verdict_if (F.At p) w v = verdict 1 p w
-verdict_if F.Nowhere w v = v
+verdict_if : Option ℕ → ℕ → Verdict → Verdict
+verdict_if (Some p) w v = verdict 1 p w
+verdict_if None w v = v
 
 searched : (xs ys : List ℕ) (w : ℕ) (v : Verdict) → first_in xs ys w v ≡ verdict_if (first_of xs ys) w v
 unfolding verdict_if
@@ -43,7 +43,7 @@ searched [] ys w v = refl
 searched (x ∷ xs) ys w v = go (has x ys) (searched xs ys w v)
   where
     go : (b : Bool) → first_in xs ys w v ≡ verdict_if (first_of xs ys) w v
-        → cond b (verdict 1 x w) (first_in xs ys w v) ≡ verdict_if (cond b (F.At x) (first_of xs ys)) w v
+        → cond b (verdict 1 x w) (first_in xs ys w v) ≡ verdict_if (cond b (Some x) (first_of xs ys)) w v
     go true e = refl
     go false e = e
 
@@ -56,29 +56,29 @@ abbrev compared : Touches → Touches → Verdict
 compared f g = first_in (written f) (held g.list) 1 (first_in (written g) (held f.list) 2 free)
 
 -- a search that found z
-found : (xs ys : List ℕ) (w : ℕ) (v : Verdict) {x : Found} (z : Found) → x ≡ first_of xs ys → x ≡ z → first_in xs ys w v ≡ verdict_if z w v
-found xs ys w v z e h = searched xs ys w v ∙ ap (λ (y : Found). verdict_if y w v) (sym e ∙ h)
+found : (xs ys : List ℕ) (w : ℕ) (v : Verdict) {x : Option ℕ} (z : Option ℕ) → x ≡ first_of xs ys → x ≡ z → first_in xs ys w v ≡ verdict_if z w v
+found xs ys w v z e h = searched xs ys w v ∙ ap (λ (y : Option ℕ). verdict_if y w v) (sym e ∙ h)
 
-module _ (f g : Touches) {x : Found} (e : x ≡ first_of (written f) (held g.list)) where
-  one : (z : Found) → x ≡ z → compared f g ≡ verdict_if z 1 (first_in (written g) (held f.list) 2 free)
+module _ (f g : Touches) {x : Option ℕ} (e : x ≡ first_of (written f) (held g.list)) where
+  one : (z : Option ℕ) → x ≡ z → compared f g ≡ verdict_if z 1 (first_in (written g) (held f.list) 2 free)
   one z = found (written f) (held g.list) 1 (first_in (written g) (held f.list) 2 free) z e
 
-  pub clash_first : {p : ℕ} → x ≡ F.At p → told (T.Clash p 1) ≡ compared f g
+  pub clash_first : {p : ℕ} → x ≡ Some p → told (Some (record { place = p; writer = 1 })) ≡ compared f g
   unfolding verdict_if
-  clash_first {p} h = sym (one (F.At p) h)
+  clash_first {p} h = sym (one (Some p) h)
 
-  module _ (h : x ≡ F.Nowhere) {y : Found} (e' : y ≡ first_of (written g) (held f.list)) where
-    two : (z : Found) → y ≡ z → compared f g ≡ verdict_if z 2 free
+  module _ (h : x ≡ None) {y : Option ℕ} (e' : y ≡ first_of (written g) (held f.list)) where
+    two : (z : Option ℕ) → y ≡ z → compared f g ≡ verdict_if z 2 free
     unfolding verdict_if
-    two z k = one F.Nowhere h ∙ found (written g) (held f.list) 2 free z e' k
+    two z k = one None h ∙ found (written g) (held f.list) 2 free z e' k
 
-    pub clash_second : {p : ℕ} → y ≡ F.At p → told (T.Clash p 2) ≡ compared f g
+    pub clash_second : {p : ℕ} → y ≡ Some p → told (Some (record { place = p; writer = 2 })) ≡ compared f g
     unfolding verdict_if
-    clash_second {p} k = sym (two (F.At p) k)
+    clash_second {p} k = sym (two (Some p) k)
 
-    pub clash_none : y ≡ F.Nowhere → told T.Free ≡ compared f g
+    pub clash_none : y ≡ None → told None ≡ compared f g
     unfolding verdict_if
-    clash_none k = sym (two F.Nowhere k)
+    clash_none k = sym (two None k)
 
 -- ---- decode
 
@@ -109,7 +109,7 @@ verdict_of_lem i j s = rw (held_written i s, held_written j s, held_all i s, hel
 -- ---- may_swap
 
 abbrev unswapped : End → Swap
-unswapped e = record { end = e; verdict = T.Free }
+unswapped e = record { end = e; clash = None }
 
 module _ (w side mask w' side' mask' : ℕ) (s : State) where
   pub unfit : {x : Swap} → x ≡ unswapped E.Lengths → sized_of s ≡ false → swap_answer x ≡ swap_of w side mask w' side' mask' s
@@ -117,16 +117,16 @@ module _ (w side mask w' side' mask' : ℕ) (s : State) where
   unfit g e = rw (g, e) refl
 
   module _ (fit : sized_of s ≡ true) {d : Decoded} (e : d ≡ decode_of w side mask) where
-    pub first_refused : {k : Refusal} {x : Swap} {z : End} → d ≡ D.Refused k → z ≡ stopped d → x ≡ unswapped z
+    pub first_refused : {k : Refusal} {x : Swap} → d ≡ D.Refused k → x ≡ unswapped (E.Refused k)
         → swap_answer x ≡ swap_of w side mask w' side' mask' s
     unfolding swap_of
-    first_refused f h g = rw (g, h, fit, ← e, f) refl
+    first_refused f g = rw (g, fit, ← e, f) refl
 
     module _ {i : Insn} (f : d ≡ D.Insn i) {d' : Decoded} (e' : d' ≡ decode_of w' side' mask') where
-      pub second_refused : {k : Refusal} {x : Swap} {z : End} → d' ≡ D.Refused k → z ≡ stopped d' → x ≡ unswapped z
+      pub second_refused : {k : Refusal} {x : Swap} → d' ≡ D.Refused k → x ≡ unswapped (E.Refused k)
           → swap_answer x ≡ swap_of w side mask w' side' mask' s
       unfolding swap_of
-      second_refused f' h g = rw (g, h, fit, ← e, f, ← e', f') refl
+      second_refused f' g = rw (g, fit, ← e, f, ← e', f') refl
 
       pub swapping : {j : Insn} {m n : Touches} {v : Verdict} → d' ≡ D.Insn j → m ≡ footprint_of i (lent s.a) → n ≡ footprint_of j (lent s.a)
           → v ≡ compared m n → swap_outcome 0 v ≡ swap_of w side mask w' side' mask' s
@@ -149,9 +149,9 @@ module _ (w side mask : ℕ) (s : State) (b : List ℕ) where
     unfit_buffer g h = rw (g, fit, lt-leb 22 (length b) h) refl
 
     module _ (wide : 22 ≤ length b) {d : Decoded} (e : d ≡ decode_of w side mask) where
-      pub refused : {k : Refusal} {x : Listed} {z : End} → d ≡ D.Refused k → z ≡ stopped d → x ≡ unlisted z → list_answer x b ≡ places_of w side mask s b
+      pub refused : {k : Refusal} {x : Listed} → d ≡ D.Refused k → x ≡ unlisted (E.Refused k) → list_answer x b ≡ places_of w side mask s b
       unfolding places_of
-      refused f h g = rw (g, h, fit, le-leb 22 (length b) wide, ← e, f) refl
+      refused f g = rw (g, fit, le-leb 22 (length b) wide, ← e, f) refl
 
       pub listed : {i : Insn} {m : Touches} {o : PlacesOutcome} → d ≡ D.Insn i → m ≡ footprint_of i (lent s.a)
           → o ≡ places_outcome 0 m.reads (m.list.count - m.reads) (sets b 0 (held m.list)) → o ≡ places_of w side mask s b

@@ -12,8 +12,9 @@ use Rattle.terms.specs.declared.End.{End}
 use Rattle.model.specs.Swap as S
 use Rattle.model.specs.Swap.{SwapOutcome, PlacesOutcome}
 use Rattle.swap.specs.Answers.{told}
-use Rattle.swap.specs.declared.Verdict.{Verdict}
-use Rattle.swap.specs.declared.Verdict.TheVariants.{Free, Clash}
+use Rattle.std.specs.Prelude.{Some, None}
+use Rattle.std.specs.declared.option.Option.{Option}
+use Rattle.swap.specs.declared.Clash.{Clash}
 use Rattle.swap.specs.declared.Swap.{Swap}
 use Rattle.swap.specs.declared.Listed.{Listed}
 use Rattle.swap.specs.contracts.may_swap as M
@@ -21,15 +22,15 @@ use Rattle.swap.proofs.may_swap.Reads as MR
 use Rattle.swap.specs.contracts.places as P
 use Rattle.swap.proofs.places.Reads as PR
 
-untold : S.Verdict → Verdict
-untold v = get_or (Free ∷ Clash v.place v.writer ∷ []) v.clash Free
+untold : S.Verdict → Option Clash
+untold v = get_or (None ∷ Some (record { place = v.place; writer = v.writer }) ∷ []) v.clash None
 
-back : (v : Verdict) → untold (told v) ≡ v
+back : (x : Option Clash) → untold (told x) ≡ x
 unfolding untold
-back Free = refl
-back (Clash p w) = refl
+back None = refl
+back (Some x) = refl
 
-told_inj : (v u : Verdict) → told v ≡ told u → v ≡ u
+told_inj : (v u : Option Clash) → told v ≡ told u → v ≡ u
 told_inj v u h = sym (back v) ∙ ap untold h ∙ back u
 
 -- ---- may_swap: the six pieces are only read, so the answer is all that there is
@@ -37,8 +38,8 @@ told_inj v u h = sym (back v) ∙ ap untold h ∙ back u
 pub one_swap : (κs : Lfts 6) (args : Args M.signature κs) (x y : Swap) (e f : AtExit M.ended κs) → MR.Post κs args x e → MR.Post κs args y f → x ≡ y
 one_swap κs args x y e f h k =
     let q = h ∙ sym k in
-    ap₂ {C = Swap} (λ z v. record { end = z; verdict = v }) (number_inj x.end y.end (ap (λ (o : SwapOutcome). o.number) q))
-    (told_inj x.verdict y.verdict (ap (λ (o : SwapOutcome). o.verdict) q))
+    ap₂ {C = Swap} (λ z v. record { end = z; clash = v }) (number_inj x.end y.end (ap (λ (o : SwapOutcome). o.number) q))
+    (told_inj x.clash y.clash (ap (λ (o : SwapOutcome). o.verdict) q))
 
 -- ---- places: the answer, and the buffer at exit, which is the last of the ten parameters
 

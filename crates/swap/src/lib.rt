@@ -3,38 +3,28 @@
 
 ghost use Rattle.std.specs.Prelude.{◌≡◌, ◌≤◌, ◌-◌, length};
 ghost use Rattle.std.proofs.lemmas.List.Edits.{sets};
-ghost use Rattle.words.specs.Inner.Meant.{meant_d};
 ghost use Rattle.pieces.specs.State.{pieces};
 ghost use Rattle.model.specs.Swap.{swap_of, places_outcome, places_of};
 ghost use Rattle.footprint.specs.Inner.Numbers.{held};
 ghost use Rattle.swap.specs.Answers.{swap_answer, list_answer};
-ghost use Rattle.swap.specs.Inner.Calls.{stopped};
 
 use footprint::{Numbers, Touches};
 use terms::End;
-use words::Decoded;
 
-mod clash; // clash.rt: the first place of one list that is in another
-
-// The first place of one list that is in another.
-#[derive(Clone, Copy)]
-enum Found {
-    At(u32),
-    Nowhere,
-}
+mod search; // search.rt: the first place of one list that is in another
 
 // A clash: the place, and which of the two writes it.
 #[derive(Clone, Copy)]
-pub enum Verdict {
-    Free,
-    Clash(u32, u32),
+pub struct Clash {
+    pub place: u32,
+    pub writer: u32,
 }
 
-// The answer of `may_swap`: Free where it is refused.
+// The answer of `may_swap`, and the clash if there is one: none where it is refused. (No Result: C is told of both whatever the answer is.)
 #[derive(Clone, Copy)]
 pub struct Swap {
     pub end: End,
-    pub verdict: Verdict,
+    pub clash: Option<Clash>,
 }
 
 // The answer of `places`: how many are read, and how many written, 0 where it is refused.
@@ -45,23 +35,10 @@ pub struct Listed {
     pub writes: u32,
 }
 
-// Why a word that is no instruction stops a call: `let .. else` cannot bind the refusal.
-fn stopped(d: Decoded) -> End
-    ensures { result ≡ stopped (meant_d d) }
-{
-    match d {
-        Decoded::Refused(k) => End::Refused(k),
-        Decoded::Insn(_) => End::Done,
-    }
-}
-
 fn unswapped(end: End) -> Swap
-    ensures { result ≡ record { end = end; verdict = Verdict.Free } }
+    ensures { result ≡ record { end = end; clash = None } }
 {
-    Swap {
-        end,
-        verdict: Verdict::Free,
-    }
+    Swap { end, clash: None }
 }
 
 fn unlisted(end: End) -> Listed
@@ -91,21 +68,21 @@ pub fn may_swap(
     ensures { swap_answer result
         ≡ swap_of word1 side1 mask1 word2 side2 mask2 (pieces ds.entry a.entry r.entry c.entry vc.entry v.entry) }
 {
-    if !pieces::sized(ds.len(), a.len(), r.len(), c.len(), vc.len(), v.len()) {
+    let sized = pieces::sized(ds.len(), a.len(), r.len(), c.len(), vc.len(), v.len());
+    let (true, Some(a)) = (sized, a.as_array()) else {
         return unswapped(End::Lengths);
-    }
-    let d = words::decode(word1, side1, mask1);
-    let Decoded::Insn(i) = d else {
-        return unswapped(stopped(d));
     };
-    let e = words::decode(word2, side2, mask2);
-    let Decoded::Insn(j) = e else {
-        return unswapped(stopped(e));
+    let i = match words::decode(word1, side1, mask1) {
+        Ok(i) => i,
+        Err(k) => return unswapped(End::Refused(k)),
     };
-    let verdict = clash::verdict(footprint::footprint(i, a), footprint::footprint(j, a));
+    let j = match words::decode(word2, side2, mask2) {
+        Ok(j) => j,
+        Err(k) => return unswapped(End::Refused(k)),
+    };
     Swap {
         end: End::Done,
-        verdict,
+        clash: search::clash(footprint::footprint(i, a), footprint::footprint(j, a)),
     }
 }
 
@@ -114,11 +91,7 @@ fn fill(buffer: &mut [u32], l: Numbers)
     requires { (22 ≤ length buffer.old) × (l.count ≤ 22) }
     ensures { buffer.new ≡ sets buffer.old 0 (held l) }
 {
-    let mut i = 0;
-    while i < l.count {
-        buffer[i] = l.numbers[i];
-        i += 1;
-    }
+    buffer[..l.count].copy_from_slice(l.held());
 }
 
 // The answer where all is listed.
@@ -151,15 +124,15 @@ pub fn places(
     ensures { list_answer result buffer.new
         ≡ places_of word side mask (pieces ds.entry a.entry r.entry c.entry vc.entry v.entry) buffer.old }
 {
-    if !pieces::sized(ds.len(), a.len(), r.len(), c.len(), vc.len(), v.len()) {
+    let sized = pieces::sized(ds.len(), a.len(), r.len(), c.len(), vc.len(), v.len());
+    let (true, Some(a)) = (sized, a.as_array()) else {
         return unlisted(End::Lengths);
-    }
+    };
     if buffer.len() < 22 {
         return unlisted(End::Lengths);
     }
-    let d = words::decode(word, side, mask);
-    let Decoded::Insn(i) = d else {
-        return unlisted(stopped(d));
-    };
-    report(footprint::footprint(i, a), buffer)
+    match words::decode(word, side, mask) {
+        Ok(i) => report(footprint::footprint(i, a), buffer),
+        Err(k) => unlisted(End::Refused(k)),
+    }
 }

@@ -28,7 +28,7 @@ given : {l r : Numbers} {c d x y : ℕ} (way : Way) → c ≡ d → x ≡ y → 
 given way e f h = rw (← e, ← f) h
 
 pub put_bytes-requires : goal.put_bytes-requires
-put_bytes-requires c = omega (arith, code c.args.a.now c.args.n c.base_of-b.ensures, c.type_inv.a c.args.n)
+put_bytes-requires c = omega (arith, code c.args.a.now c.args.n c.base_of-b.ensures, c.fits-a c.args.n)
 
 pub returns : goal.returns
 returns c =
