@@ -92,6 +92,10 @@ named word side mask e f = subst BoundedD f (subst⁻¹ BoundedD e (bounded word
 abbrev all : Insn → State → Touches
 all i s = record { list = numbers_of (touches_of i s); reads = length (reads_of i s) }
 
+-- $a as the array that it was found to be
+pub of_array : (i : Insn) {a b : List ℕ} {f : Touches} → f ≡ footprint_of i (lent a) → a ≡ b → f ≡ footprint_of i (lent b)
+of_array i e same = e ∙ ap (λ (l : List ℕ). footprint_of i (lent l)) same
+
 module _ (i : Insn) (s : State) {f : Touches} (e : f ≡ footprint_of i (lent s.a)) where
   is : f ≡ all i s
   is = e ∙ lent_footprint i s ∙ footprint_is i s

@@ -68,8 +68,10 @@ pub fn may_swap(
     ensures { swap_answer result
         ≡ swap_of word1 side1 mask1 word2 side2 mask2 (pieces ds.entry a.entry r.entry c.entry vc.entry v.entry) }
 {
-    let sized = pieces::sized(ds.len(), a.len(), r.len(), c.len(), vc.len(), v.len());
-    let (true, Some(a)) = (sized, a.as_array()) else {
+    if !pieces::sized(ds.len(), a.len(), r.len(), c.len(), vc.len(), v.len()) {
+        return unswapped(End::Lengths);
+    }
+    let Some(a) = a.as_array() else {
         return unswapped(End::Lengths);
     };
     let i = match words::decode(word1, side1, mask1) {
@@ -124,8 +126,10 @@ pub fn places(
     ensures { list_answer result buffer.new
         ≡ places_of word side mask (pieces ds.entry a.entry r.entry c.entry vc.entry v.entry) buffer.old }
 {
-    let sized = pieces::sized(ds.len(), a.len(), r.len(), c.len(), vc.len(), v.len());
-    let (true, Some(a)) = (sized, a.as_array()) else {
+    if !pieces::sized(ds.len(), a.len(), r.len(), c.len(), vc.len(), v.len()) {
+        return unlisted(End::Lengths);
+    }
+    let Some(a) = a.as_array() else {
         return unlisted(End::Lengths);
     };
     if buffer.len() < 22 {

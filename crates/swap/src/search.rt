@@ -13,7 +13,7 @@ fn first(l: Numbers, from: usize, m: Numbers) -> Option<u32>
     requires { (l.count ≤ 22) × (m.count ≤ 22) }
     ensures { result ≡ first_of (drop from (held l)) (held m) }
 {
-    for x in l.held().iter().skip(from) {
+    for x in l.held().get(from..)? {
         if m.held().contains(x) {
             return Some(*x);
         }
@@ -29,6 +29,8 @@ pub fn clash(f: Touches, g: Touches) -> Option<Clash>
     if let Some(place) = first(f.list, f.reads, g.list) {
         return Some(Clash { place, writer: 1 });
     }
-    let place = first(g.list, g.reads, f.list)?;
-    Some(Clash { place, writer: 2 })
+    if let Some(place) = first(g.list, g.reads, f.list) {
+        return Some(Clash { place, writer: 2 });
+    }
+    None
 }

@@ -178,7 +178,7 @@ returns-in-Nop c = of_nop (state c.args.ds.now c.args.a.now c.args.r.now c.args.
 
 pub ldavh-requires : goal.ldavh-requires
 unfolding meant BoundedA
-ldavh-requires c = (search rules, search rules, search rules, search rules, (there (row c.decode-d.ensures c.in-Ok.is c.in-Ldavh.is)).2)
+ldavh-requires c = (there (row c.decode-d.ensures c.in-Ok.is c.in-Ldavh.is)).2
 
 pub returns-in-Ldavh : goal.returns-in-Ldavh
 unfolding meant addressed counted_in into_r into_v out_of
@@ -189,7 +189,7 @@ returns-in-Ldavh c =
 
 pub ldavv-requires : goal.ldavv-requires
 unfolding meant BoundedA
-ldavv-requires c = (search rules, search rules, search rules, search rules, (there (row c.decode-d.ensures c.in-Ok.is c.in-Ldavv.is)).2)
+ldavv-requires c = (there (row c.decode-d.ensures c.in-Ok.is c.in-Ldavv.is)).2
 
 pub returns-in-Ldavv : goal.returns-in-Ldavv
 unfolding meant addressed counted_in into_r into_v out_of
@@ -200,7 +200,7 @@ returns-in-Ldavv c =
 
 pub ldas-requires : goal.ldas-requires
 unfolding meant BoundedA
-ldas-requires c = (search rules, search rules, search rules, search rules, (there (row c.decode-d.ensures c.in-Ok.is c.in-Ldas.is)).2)
+ldas-requires c = (there (row c.decode-d.ensures c.in-Ok.is c.in-Ldas.is)).2
 
 pub returns-in-Ldas : goal.returns-in-Ldas
 unfolding meant addressed counted_in into_r into_v out_of
@@ -211,7 +211,7 @@ returns-in-Ldas c =
 
 pub stavh-requires : goal.stavh-requires
 unfolding meant BoundedA
-stavh-requires c = (search rules, search rules, search rules, search rules, (there (row c.decode-d.ensures c.in-Ok.is c.in-Stavh.is)).2)
+stavh-requires c = (there (row c.decode-d.ensures c.in-Ok.is c.in-Stavh.is)).2
 
 pub returns-in-Stavh : goal.returns-in-Stavh
 unfolding meant addressed counted_in into_r into_v out_of
@@ -222,7 +222,7 @@ returns-in-Stavh c =
 
 pub stavv-requires : goal.stavv-requires
 unfolding meant BoundedA
-stavv-requires c = (search rules, search rules, search rules, search rules, (there (row c.decode-d.ensures c.in-Ok.is c.in-Stavv.is)).2)
+stavv-requires c = (there (row c.decode-d.ensures c.in-Ok.is c.in-Stavv.is)).2
 
 pub returns-in-Stavv : goal.returns-in-Stavv
 unfolding meant addressed counted_in into_r into_v out_of
@@ -233,7 +233,7 @@ returns-in-Stavv c =
 
 pub stas-requires : goal.stas-requires
 unfolding meant BoundedA
-stas-requires c = (search rules, search rules, search rules, search rules, (there (row c.decode-d.ensures c.in-Ok.is c.in-Stas.is)).2)
+stas-requires c = (there (row c.decode-d.ensures c.in-Ok.is c.in-Stas.is)).2
 
 pub returns-in-Stas : goal.returns-in-Stas
 unfolding meant addressed counted_in into_r into_v out_of
@@ -244,7 +244,7 @@ returns-in-Stas c =
 
 pub aadd-requires : goal.aadd-requires
 unfolding meant BoundedA
-aadd-requires c = (search rules, search rules, (there (row c.decode-d.ensures c.in-Ok.is c.in-Aadd.is)).1)
+aadd-requires c = (there (row c.decode-d.ensures c.in-Ok.is c.in-Aadd.is)).1
 
 pub returns-in-Aadd : goal.returns-in-Aadd
 unfolding meant addressed counted_in into_r into_v out_of
@@ -255,7 +255,7 @@ returns-in-Aadd c =
 
 pub add-requires : goal.add-requires
 unfolding meant BoundedA
-add-requires c = (search rules, search rules, (there (row c.decode-d.ensures c.in-Ok.is c.in-Add.is)).2)
+add-requires c = (there (row c.decode-d.ensures c.in-Ok.is c.in-Add.is)).2
 
 pub returns-in-Add : goal.returns-in-Add
 unfolding meant addressed counted_in into_r into_v out_of
