@@ -6,7 +6,7 @@ use Rattle.words.specs.Decoded as D
 use Rattle.std.specs.declared.result.Result.{Result}
 use Rattle.terms.specs.declared.Counted.{Counted}
 use Rattle.terms.specs.declared.Refusal.{Refusal}
-use Rattle.address.specs.Inner.Effect.{addressed, counted_in, into_r, into_v, out_of}
+use Rattle.address.specs.Inner.Effect.{addressed, counted_in}
 use Rattle.ports.specs.Inner.Ports as P
 use Rattle.vector.specs.Inner.Effect as U
 use Rattle.pieces.specs.State.{state}
@@ -181,7 +181,7 @@ unfolding meant BoundedA
 ldavh-requires c = (there (row c.decode-d.ensures c.in-Ok.is c.in-Ldavh.is)).2
 
 pub returns-in-Ldavh : goal.returns-in-Ldavh
-unfolding meant addressed counted_in into_r into_v out_of
+unfolding meant addressed counted_in
 returns-in-Ldavh c =
     let s = state c.args.ds.now c.args.a.now c.args.r.now c.args.c.now c.args.vc.now c.args.v.now in
     of_address s (but_r s) (but_r_lent s)
@@ -192,7 +192,7 @@ unfolding meant BoundedA
 ldavv-requires c = (there (row c.decode-d.ensures c.in-Ok.is c.in-Ldavv.is)).2
 
 pub returns-in-Ldavv : goal.returns-in-Ldavv
-unfolding meant addressed counted_in into_r into_v out_of
+unfolding meant addressed counted_in
 returns-in-Ldavv c =
     let s = state c.args.ds.now c.args.a.now c.args.r.now c.args.c.now c.args.vc.now c.args.v.now in
     of_address s (but_r s) (but_r_lent s)
@@ -203,7 +203,7 @@ unfolding meant BoundedA
 ldas-requires c = (there (row c.decode-d.ensures c.in-Ok.is c.in-Ldas.is)).2
 
 pub returns-in-Ldas : goal.returns-in-Ldas
-unfolding meant addressed counted_in into_r into_v out_of
+unfolding meant addressed counted_in
 returns-in-Ldas c =
     let s = state c.args.ds.now c.args.a.now c.args.r.now c.args.c.now c.args.vc.now c.args.v.now in
     of_address s (but_v s) (but_v_lent s)
@@ -214,7 +214,7 @@ unfolding meant BoundedA
 stavh-requires c = (there (row c.decode-d.ensures c.in-Ok.is c.in-Stavh.is)).2
 
 pub returns-in-Stavh : goal.returns-in-Stavh
-unfolding meant addressed counted_in into_r into_v out_of
+unfolding meant addressed counted_in
 returns-in-Stavh c =
     let s = state c.args.ds.now c.args.a.now c.args.r.now c.args.c.now c.args.vc.now c.args.v.now in
     of_address s (but_r s) (but_r_lent s)
@@ -225,7 +225,7 @@ unfolding meant BoundedA
 stavv-requires c = (there (row c.decode-d.ensures c.in-Ok.is c.in-Stavv.is)).2
 
 pub returns-in-Stavv : goal.returns-in-Stavv
-unfolding meant addressed counted_in into_r into_v out_of
+unfolding meant addressed counted_in
 returns-in-Stavv c =
     let s = state c.args.ds.now c.args.a.now c.args.r.now c.args.c.now c.args.vc.now c.args.v.now in
     of_address s (but_r s) (but_r_lent s)
@@ -236,7 +236,7 @@ unfolding meant BoundedA
 stas-requires c = (there (row c.decode-d.ensures c.in-Ok.is c.in-Stas.is)).2
 
 pub returns-in-Stas : goal.returns-in-Stas
-unfolding meant addressed counted_in into_r into_v out_of
+unfolding meant addressed counted_in
 returns-in-Stas c =
     let s = state c.args.ds.now c.args.a.now c.args.r.now c.args.c.now c.args.vc.now c.args.v.now in
     of_address s (but_v s) (but_v_lent s)
@@ -247,7 +247,7 @@ unfolding meant BoundedA
 aadd-requires c = (there (row c.decode-d.ensures c.in-Ok.is c.in-Aadd.is)).1
 
 pub returns-in-Aadd : goal.returns-in-Aadd
-unfolding meant addressed counted_in into_r into_v out_of
+unfolding meant addressed counted_in
 returns-in-Aadd c =
     let s = state c.args.ds.now c.args.a.now c.args.r.now c.args.c.now c.args.vc.now c.args.v.now in
     of_address s (a_and_c s) (a_and_c_lent s)
@@ -258,68 +258,68 @@ unfolding meant BoundedA
 add-requires c = (there (row c.decode-d.ensures c.in-Ok.is c.in-Add.is)).2
 
 pub returns-in-Add : goal.returns-in-Add
-unfolding meant addressed counted_in into_r into_v out_of
+unfolding meant addressed counted_in
 returns-in-Add c =
     let s = state c.args.ds.now c.args.a.now c.args.r.now c.args.c.now c.args.vc.now c.args.v.now in
     of_address s (a_and_c s) (a_and_c_lent s)
     (row c.decode-d.ensures c.in-Ok.is c.in-Add.is) c.add.ensures refl refl
 
 pub returns-in-Setlo : goal.returns-in-Setlo
-unfolding meant addressed counted_in into_r into_v out_of
+unfolding meant addressed counted_in
 returns-in-Setlo c =
     let s = state c.args.ds.now c.args.a.now c.args.r.now c.args.c.now c.args.vc.now c.args.v.now in
     of_address s (just_a s) (just_a_lent s)
     (row c.decode-d.ensures c.in-Ok.is c.in-Setlo.is) c.setlo.ensures refl refl
 
 pub returns-in-Sethi : goal.returns-in-Sethi
-unfolding meant addressed counted_in into_r into_v out_of
+unfolding meant addressed counted_in
 returns-in-Sethi c =
     let s = state c.args.ds.now c.args.a.now c.args.r.now c.args.c.now c.args.vc.now c.args.v.now in
     of_address s (just_a s) (just_a_lent s)
     (row c.decode-d.ensures c.in-Ok.is c.in-Sethi.is) c.sethi.ensures refl refl
 
 pub returns-in-Bitop : goal.returns-in-Bitop
-unfolding meant addressed counted_in into_r into_v out_of
+unfolding meant addressed counted_in
 returns-in-Bitop c =
     let s = state c.args.ds.now c.args.a.now c.args.r.now c.args.c.now c.args.vc.now c.args.v.now in
     of_address s (a_and_c s) (a_and_c_lent s)
     (row c.decode-d.ensures c.in-Ok.is c.in-Bitop.is) c.bitop.ensures refl refl
 
 pub returns-in-Ldvh : goal.returns-in-Ldvh
-unfolding meant addressed counted_in into_r into_v out_of
+unfolding meant addressed counted_in
 returns-in-Ldvh c =
     of_load (state c.args.ds.now c.args.a.now c.args.r.now c.args.c.now c.args.vc.now c.args.v.now)
     (row c.decode-d.ensures c.in-Ok.is c.in-Ldvh.is) (search rules) refl refl
 
 pub returns-in-Ldvv : goal.returns-in-Ldvv
-unfolding meant addressed counted_in into_r into_v out_of
+unfolding meant addressed counted_in
 returns-in-Ldvv c =
     of_load (state c.args.ds.now c.args.a.now c.args.r.now c.args.c.now c.args.vc.now c.args.v.now)
     (row c.decode-d.ensures c.in-Ok.is c.in-Ldvv.is) (search rules) refl refl
 
 pub returns-in-Lds : goal.returns-in-Lds
-unfolding meant addressed counted_in into_r into_v out_of
+unfolding meant addressed counted_in
 returns-in-Lds c =
     let s = state c.args.ds.now c.args.a.now c.args.r.now c.args.c.now c.args.vc.now c.args.v.now in
     of_address s (but_v s) (but_v_lent s)
     (row c.decode-d.ensures c.in-Ok.is c.in-Lds.is) c.lds.ensures refl refl
 
 pub returns-in-Stvh : goal.returns-in-Stvh
-unfolding meant addressed counted_in into_r into_v out_of
+unfolding meant addressed counted_in
 returns-in-Stvh c =
     let s = state c.args.ds.now c.args.a.now c.args.r.now c.args.c.now c.args.vc.now c.args.v.now in
     of_address s (but_r s) (but_r_lent s)
     (row c.decode-d.ensures c.in-Ok.is c.in-Stvh.is) c.stvh.ensures refl refl
 
 pub returns-in-Stvv : goal.returns-in-Stvv
-unfolding meant addressed counted_in into_r into_v out_of
+unfolding meant addressed counted_in
 returns-in-Stvv c =
     let s = state c.args.ds.now c.args.a.now c.args.r.now c.args.c.now c.args.vc.now c.args.v.now in
     of_address s (but_r s) (but_r_lent s)
     (row c.decode-d.ensures c.in-Ok.is c.in-Stvv.is) c.stvv.ensures refl refl
 
 pub returns-in-Sts : goal.returns-in-Sts
-unfolding meant addressed counted_in into_r into_v out_of
+unfolding meant addressed counted_in
 returns-in-Sts c =
     let s = state c.args.ds.now c.args.a.now c.args.r.now c.args.c.now c.args.vc.now c.args.v.now in
     of_address s (but_v s) (but_v_lent s)
