@@ -1,7 +1,8 @@
 -- Signed bytes by the unsigned ones that differ from them in bit 7: the order is the same.
-use Rattle.std.proofs.Common.{◌≡◌, ℕ, ◌+◌, ◌-◌, ◌%◌, ◌<◌, Bool, true, false, cond, ltb, ℤ, pos, negsuc, nat_abs, sym, refl, ap, ◌∙◌, subst, arith, ltb-false, ltb-true, le-ltb, lt-ltb}
+use Rattle.std.proofs.Common.{◌≡◌, ℕ, ◌+◌, ◌-◌, ◌<◌, Bool, true, false, cond, ltb, ℤ, pos, negsuc, w8, to_z, of_z, sym, refl, ap, ◌∙◌, subst, arith, ltb-false, ltb-true, le-ltb, lt-ltb}
 use lib.Bits.{bit_xor, xor_lt}
 use lib.Signed.{lt_z}
+use Rattle.std.proofs.Math.Facts.{to_z-of_z, sfits_to_z, to_z_pos}
 use Rattle.signed.specs.Signed.{sext, low}
 use Rattle.signed.proofs.Z.{sext_pos, sext_neg, flip_up, flip_down}
 
@@ -51,12 +52,15 @@ sext_off =
     (λ x h. rw (flip_low x h) (sext_low x h ∙ sym (off_high x)))
     (λ x h. rw (flip_high x h) (sext_high x h ∙ sym (off_low x h)))
 
--- a magnitude, where r is the byte that x takes to 0
-pub size : (x : ℕ) → x < 256 → (r : ℕ) → r < 256 → (r + x) % 256 ≡ 0 → cond (ltb x 128) x r ≡ nat_abs (sext x 7)
-size =
-    by_half (λ x. (r : ℕ) → r < 256 → (r + x) % 256 ≡ 0 → cond (ltb x 128) x r ≡ nat_abs (sext x 7))
-    (λ x h r k e. rw (sext_low x h, lt-ltb x 128 h))
-    (λ x h r k e. rw (sext_high x h, le-ltb (x + 128) 128 (omega arith)) (omega arith))
+-- a byte read as a signed number, by `cast_signed`, and read again
+pub signed_is : (x : ℕ) → x < 256 → to_z w8 x ≡ sext x 7
+signed_is =
+    by_half (λ x. to_z w8 x ≡ sext x 7)
+    (λ x h. rw (sext_low x h) (to_z_pos w8 h))
+    (λ x h. rw (sext_high x h, le-ltb (x + 128) 128 (omega arith)) (ap negsuc (omega arith)))
+
+pub signed_back : (x : ℕ) {z : ℤ} → x < 256 → z ≡ to_z w8 x → to_z w8 (of_z w8 z) ≡ sext x 7
+signed_back x h e = rw e (to_z-of_z (sfits_to_z {w = w8} {n = x} (record { fits = h })) ∙ signed_is x h)
 
 pub low_off : (p : ℕ) → p < 256 → low 8 (off p) ≡ bit_xor p 128
 unfolding low

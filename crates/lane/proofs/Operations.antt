@@ -1,28 +1,55 @@
--- What each arithmetic operation, and vcmpad's distance, makes of two bytes, in the forms of the code.
-use Rattle.std.proofs.Common.{◌≡◌, ℕ, suc, ◌+◌, ◌-◌, ◌%◌, ◌^◌, ◌<◌, ◌≤◌, Bool, true, false, cond, ltb, ℤ, pos, negsuc, ◌+ℤ◌, ◌-ℤ◌, neg_ℤ, nat_abs, sym, refl, ap, ◌∙◌, arith, to_z-of_z, w32, SFits, to_z, of_z, ltb-false, ltb-true, le-ltb, lt-ltb}
-use lib.Bits.{bit_xor}
+-- What each arithmetic operation makes of two bytes, in the forms of the code.
+use Rattle.std.proofs.Common.{◌≡◌, ℕ, suc, ◌+◌, ◌-◌, ◌^◌, ◌<◌, min, max, Bool, true, false, cond, ltb, ℤ, pos, negsuc, ◌+ℤ◌, ◌-ℤ◌, neg_ℤ, nat_abs, sym, refl, ap, ◌∙◌, arith, to_z-of_z, w8, w32, SFits, to_z, of_z, ltb-false, ltb-true, le-ltb}
 use lib.Signed.{mag, lt_z}
+use Rattle.std.specs.Int.{int_min, int_max}
+use Rattle.std.proofs.Math.Facts.{of_z-to_z}
+use Rattle.std.proofs.Math.Nat.{min_comm, max_comm}
 use Rattle.signed.specs.Signed.{sext, widen, low, clip}
 use Rattle.signed.proofs.Z.{passed, mag_sext, add_fits, sub_fits, neg_back, pos_down, pos_up}
 use Rattle.lane.specs.declared.Calc.TheVariants.{Min, Max, Abs, Add, Sub}
-use Rattle.lane.specs.Lane.{saturated, result, told, arith_lane, apart}
-use Rattle.lane.proofs.Biased.{by_half, sext_low, sext_high, sext_off, lt_z_off, size}
+use Rattle.lane.specs.Lane.{Lane, saturated, result, told, arith_lane}
+use Rattle.lane.proofs.Biased.{by_half, sext_low, sext_high, signed_is, signed_back}
 use Rattle.lane.proofs.Saturated.{moved, within, above, below}
 
--- signed
-order : (x y : ℕ) → x < 256 → y < 256 → lt_z (sext x 7) (sext y 7) ≡ ltb (bit_xor x 128) (bit_xor y 128)
-order x y h k = rw (sext_off x h, sext_off y k) (lt_z_off (bit_xor x 128) (bit_xor y 128))
-
--- a number from 0 upwards, saturated
-capped : (n : ℕ) → (saturated true (pos n)).byte ≡ cond (ltb n 127) n 127
-unfolding saturated clip low
-capped n = pick (ltb 0x7f n) (ltb n 127) refl refl
+-- the lesser and the greater of two, whichever is tested first
+least : (x y : ℕ) → cond (ltb x y) x y ≡ min x y
+least x y = pick (ltb x y) refl
   where
-    pick : (t u : Bool) → ltb 0x7f n ≡ t → ltb n 127 ≡ u → low 8 (cond t (pos 0x7f) (pos n)) ≡ cond u n 127
-    pick true true e f = omega (arith, ltb-true 0x7f n e, ltb-true n 127 f)
-    pick true false e f = refl
-    pick false true e f = omega (arith, ltb-true n 127 f)
-    pick false false e f = omega (arith, ltb-false 0x7f n e, ltb-false n 127 f)
+    pick : (t : Bool) → ltb x y ≡ t → cond t x y ≡ min x y
+    pick true e = let h = ltb-true x y e in omega arith
+    pick false e = let h = ltb-false x y e in omega arith
+
+most : (x y : ℕ) → cond (ltb x y) y x ≡ max x y
+most x y = pick (ltb x y) refl
+  where
+    pick : (t : Bool) → ltb x y ≡ t → cond t y x ≡ max x y
+    pick true e = let h = ltb-true x y e in omega arith
+    pick false e = let h = ltb-false x y e in omega arith
+
+push : (f : ℕ → ℤ) (t : Bool) (a b : ℕ) → cond t (f a) (f b) ≡ f (cond t a b)
+push f true a b = refl
+push f false a b = refl
+
+lesser : (a b : ℤ) → int_min a b ≡ cond (lt_z a b) a b
+lesser (pos m) (pos n) = rw (push pos (ltb n m) n m, push pos (ltb m n) m n) (ap pos (least n m ∙ min_comm n m ∙ sym (least m n)))
+lesser (pos m) (negsuc n) = refl
+lesser (negsuc m) (pos n) = refl
+lesser (negsuc m) (negsuc n) = rw (push negsuc (ltb m n) n m, push negsuc (ltb n m) m n) (ap negsuc (most m n ∙ max_comm m n ∙ sym (most n m)))
+
+greater : (a b : ℤ) → int_max a b ≡ cond (lt_z a b) b a
+greater (pos m) (pos n) = rw (push pos (ltb n m) m n, push pos (ltb m n) n m) (ap pos (most n m ∙ max_comm n m ∙ sym (most m n)))
+greater (pos m) (negsuc n) = refl
+greater (negsuc m) (pos n) = refl
+greater (negsuc m) (negsuc n) = rw (push negsuc (ltb m n) m n, push negsuc (ltb n m) n m) (ap negsuc (least m n ∙ min_comm m n ∙ sym (least n m)))
+
+-- signed: a number from 0 upwards, saturated
+capped : (n : ℕ) → (saturated true (pos n)).byte ≡ min n 127
+unfolding saturated clip low
+capped n = pick (ltb 0x7f n) refl
+  where
+    pick : (t : Bool) → ltb 0x7f n ≡ t → low 8 (cond t (pos 0x7f) (pos n)) ≡ min n 127
+    pick true e = let h = ltb-true 0x7f n e in omega arith
+    pick false e = let h = ltb-false 0x7f n e in omega arith
 
 -- a byte read as a signed number is not saturated
 back : (x : ℕ) → x < 256 → (saturated true (sext x 7)).byte ≡ x
@@ -32,27 +59,27 @@ back =
     (λ x h. rw (sext_low x h, le-ltb 0x7f x (omega arith)) (omega arith))
     (λ x h. rw (sext_high x h, le-ltb 0x7f (127 - x) (omega arith)) (omega arith))
 
-picked : (t : Bool) (x y : ℕ) → x < 256 → y < 256 → (saturated true (cond t (sext x 7) (sext y 7))).byte ≡ cond t x y
-picked true x y h k = back x h
-picked false x y h k = back y k
+picked : (t : Bool) (x y : ℕ) → x < 256 → y < 256 → of_z w8 (to_z w8 (of_z w8 (cond t (sext x 7) (sext y 7)))) ≡ (saturated true (cond t (sext x 7) (sext y 7))).byte
+picked true x y h k = rw (signed_back x h (sym (signed_is x h)), back x h, ← signed_is x h) (of_z-to_z {w = w8} {n = x} (record { fits = h }))
+picked false x y h k = rw (signed_back y k (sym (signed_is y k)), back y k, ← signed_is y k) (of_z-to_z {w = w8} {n = y} (record { fits = k }))
 
-pub min_signed : (x y : ℕ) → x < 256 → y < 256 → (arith_lane Min true x y).byte ≡ cond (ltb (bit_xor x 128) (bit_xor y 128)) x y
-unfolding arith_lane result widen
-min_signed x y h k = rw (order x y h k) (picked (ltb (bit_xor x 128) (bit_xor y 128)) x y h k)
+module _ (x y : ℕ) {a b m : ℤ} {r : ℕ} (h : x < 256) (k : y < 256) (p : a ≡ to_z w8 x) (q : b ≡ to_z w8 y) where
+  pub min_signed : m ≡ int_min (to_z w8 (of_z w8 a)) (to_z w8 (of_z w8 b)) → r ≡ of_z w8 (to_z w8 (of_z w8 m)) → r ≡ (arith_lane Min true x y).byte
+  unfolding arith_lane result widen
+  min_signed e f = rw (f, e, signed_back x h p, signed_back y k q, lesser (sext x 7) (sext y 7)) (picked (lt_z (sext x 7) (sext y 7)) x y h k)
 
-pub max_signed : (x y : ℕ) → x < 256 → y < 256 → (arith_lane Max true x y).byte ≡ cond (ltb (bit_xor x 128) (bit_xor y 128)) y x
-unfolding arith_lane result widen
-max_signed x y h k = rw (order x y h k) (picked (ltb (bit_xor x 128) (bit_xor y 128)) y x k h)
+  pub max_signed : m ≡ int_max (to_z w8 (of_z w8 a)) (to_z w8 (of_z w8 b)) → r ≡ of_z w8 (to_z w8 (of_z w8 m)) → r ≡ (arith_lane Max true x y).byte
+  unfolding arith_lane result widen
+  max_signed e f = rw (f, e, signed_back x h p, signed_back y k q, greater (sext x 7) (sext y 7)) (picked (lt_z (sext x 7) (sext y 7)) y x k h)
 
 -- a magnitude
 size_is : (z : ℤ) → cond (lt_z z (pos 0)) (neg_ℤ z) z ≡ pos (nat_abs z)
 size_is (pos n) = rw (le-ltb n 0 (omega arith))
 size_is (negsuc n) = refl
 
-pub abs_signed : (x n : ℕ) {z r : ℕ} → x < 256 → n < 256 → (n + x) % 256 ≡ 0 → z ≡ cond (ltb x 128) x n → r ≡ cond (ltb z 127) z 127
-    → r ≡ (arith_lane Abs true x 0).byte
+pub abs_signed : (x : ℕ) → min (nat_abs (sext x 7)) 127 ≡ (arith_lane Abs true x 0).byte
 unfolding arith_lane result widen
-abs_signed x n h k e p q = rw (q, p, size x h n k e, size_is (sext x 7)) (sym (capped (nat_abs (sext x 7))))
+abs_signed x = rw (size_is (sext x 7)) (sym (capped (nat_abs (sext x 7))))
 
 -- a sum, a difference and a negation of signed bytes fit, and come back as they were
 small : (x : ℕ) → mag (sext x 7) < 256
@@ -103,37 +130,25 @@ pub abs_unsigned : (x y : ℕ) → x < 256 → arith_lane Abs false x y ≡ move
 unfolding arith_lane result widen
 abs_unsigned x y h = rw (le-ltb x 0 (omega arith)) (within x h)
 
-pub add_unsigned : (x y : ℕ) → x < 256 → y < 256 → arith_lane Add false x y ≡ moved (ltb ((x + y) % 2 ^ 8) x) 255 ((x + y) % 2 ^ 8)
-unfolding arith_lane result widen
-add_unsigned x y h k = pick (ltb (x + y) 256) refl
-  where
-    pick : (t : Bool) → ltb (x + y) 256 ≡ t → saturated false (pos (x + y)) ≡ moved (ltb ((x + y) % 2 ^ 8) x) 255 ((x + y) % 2 ^ 8)
-    pick true e =
-        let l : x + y < 256 = ltb-true (x + y) 256 e in
-        let s : (x + y) % 2 ^ 8 ≡ x + y = omega arith in
-        rw (s, le-ltb (x + y) x (omega arith)) (within (x + y) l)
-    pick false e =
-        let l : 256 ≤ x + y = ltb-false (x + y) 256 e in
-        rw (lt-ltb ((x + y) % 2 ^ 8) x (omega arith)) (above (x + y) l)
+module _ (x y : ℕ) (h : x < 256) (k : y < 256) where
+  pub min_byte : (arith_lane Min false x y).byte ≡ min x y
+  min_byte = ap (λ (l : Lane). l.byte) (min_unsigned x y h k) ∙ least x y
 
-pub sub_unsigned : (x y n : ℕ) → x < 256 → y < 256 → n < 256 → (n + y) % 2 ^ 8 ≡ x → arith_lane Sub false x y ≡ moved (ltb x n) 0 n
-unfolding arith_lane result widen
-sub_unsigned x y n h k m e = pick (ltb x n) refl
-  where
-    pick : (t : Bool) → ltb x n ≡ t → saturated false (pos x -ℤ pos y) ≡ moved t 0 n
-    pick true l =
-        let u : x < n = ltb-true x n l in
-        let d : x < y = omega arith in rw (pos_down x y d) (below (y - suc x) n)
-    pick false l =
-        let u : n ≤ x = ltb-false x n l in
-        let d : y ≤ x = omega arith in
-        let s : x - y ≡ n = omega arith in rw (pos_up x y d, s) (within n m)
+  pub max_byte : (arith_lane Max false x y).byte ≡ max x y
+  max_byte = ap (λ (l : Lane). l.byte) (max_unsigned x y h k) ∙ most x y
 
--- a distance, by the two differences of bytes
-pub apart_is : (x y : ℕ) {up down : ℕ} → x < 256 → y < 256 → up < 256 → down < 256 → (up + x) % 256 ≡ y → (down + y) % 256 ≡ x
-    → cond (ltb x y) up down ≡ apart x y
-apart_is x y {up} {down} hx hy hu hd p q = pick (ltb x y) refl
-  where
-    pick : (t : Bool) → ltb x y ≡ t → cond t up down ≡ apart x y
-    pick true e = let h = ltb-true x y e in omega arith
-    pick false e = let h = ltb-false x y e in omega arith
+  pub add_byte : (arith_lane Add false x y).byte ≡ min (x + y) 255
+  unfolding arith_lane result widen
+  add_byte = pick (ltb (x + y) 256) refl
+    where
+      pick : (t : Bool) → ltb (x + y) 256 ≡ t → (saturated false (pos (x + y))).byte ≡ min (x + y) 255
+      pick true e = let l = ltb-true (x + y) 256 e in rw (within (x + y) l) (omega arith)
+      pick false e = let l = ltb-false (x + y) 256 e in rw (above (x + y) l) (omega arith)
+
+  pub sub_byte : (arith_lane Sub false x y).byte ≡ x - y
+  unfolding arith_lane result widen
+  sub_byte = pick (ltb x y) refl
+    where
+      pick : (t : Bool) → ltb x y ≡ t → (saturated false (pos x -ℤ pos y)).byte ≡ x - y
+      pick true e = let l = ltb-true x y e in rw (pos_down x y l, below (y - suc x) 0) (omega arith)
+      pick false e = let l = ltb-false x y e in rw (pos_up x y l, within (x - y) (omega arith))

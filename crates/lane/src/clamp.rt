@@ -29,14 +29,11 @@ pub fn sign(x: u8, y: u8, z: u8) -> u8
 fn size(x: u8) -> u8
     ensures { result ≡ unsigned_abs (sext x 7) }
 {
-    either(x < 128, x, std::num::wrapping_sub_u8(0, x))
+    x.cast_signed().unsigned_abs()
 }
 
 pub fn lesser(x: u8, y: u8) -> u8
     ensures { result ≡ (min_abs_lane x y).byte }
 {
-    let p = size(x);
-    let q = size(y);
-    let t = either(p < q, p, q);
-    either(t < 127, t, 127)
+    size(x).min(size(y)).min(127)
 }

@@ -4,19 +4,16 @@ ghost use Rattle.std.specs.Prelude.{◌≡◌, ◌+◌, ◌/◌, true, false, if
 ghost use Rattle.lane.specs.declared.Calc.TheVariants.{Min, Max, Abs, Neg, Add, Sub};
 ghost use Rattle.lane.specs.Lane.{arith_lane};
 
-use crate::select;
-
-// Bit 7 turned over orders signed bytes as unsigned ones.
 pub fn vmin_s(x: u8, y: u8) -> u8
     ensures { result ≡ (arith_lane Min true x y).byte }
 {
-    select::either((x ^ 128) < (y ^ 128), x, y)
+    x.cast_signed().min(y.cast_signed()).cast_unsigned()
 }
 
 pub fn vmax_s(x: u8, y: u8) -> u8
     ensures { result ≡ (arith_lane Max true x y).byte }
 {
-    select::either((x ^ 128) < (y ^ 128), y, x)
+    x.cast_signed().max(y.cast_signed()).cast_unsigned()
 }
 
 pub fn vadd_s(x: u8, y: u8) -> u8
@@ -33,7 +30,7 @@ pub fn vadd_s(x: u8, y: u8) -> u8
 pub fn vadd_s_clipped(x: u8, y: u8) -> u8
     ensures { result ≡ (if (arith_lane Add true x y).clipped then 1 else 0) }
 {
-    let t = std::num::wrapping_add_u8(x, y);
+    let t = x.wrapping_add(y);
     ((x ^ t) & (y ^ t)) / 128
 }
 
@@ -51,7 +48,7 @@ pub fn vsub_s(x: u8, y: u8) -> u8
 pub fn vsub_s_clipped(x: u8, y: u8) -> u8
     ensures { result ≡ (if (arith_lane Sub true x y).clipped then 1 else 0) }
 {
-    let t = std::num::wrapping_sub_u8(x, y);
+    let t = x.wrapping_sub(y);
     ((x ^ y) & (x ^ t)) / 128
 }
 
@@ -64,62 +61,57 @@ pub fn vneg_s(x: u8) -> u8
 pub fn vabs_s(x: u8) -> u8
     ensures { result ≡ (arith_lane Abs true x 0).byte }
 {
-    let z = select::either(x < 128, x, std::num::wrapping_sub_u8(0, x));
-    select::either(z < 127, z, 127)
+    x.cast_signed().unsigned_abs().min(127)
 }
 
 // 1 for 128, which is -128: the lowest bit that is set in it is bit 7. Of all signed bytes it alone has a negation, or a magnitude, outside the range.
 pub fn least(x: u8) -> u8
     ensures { result ≡ (if nat_eq x 128 then 1 else 0) }
 {
-    (x & std::num::wrapping_sub_u8(0, x)) / 128
+    (x & x.wrapping_neg()) / 128
 }
 
 pub fn vmin_u(x: u8, y: u8) -> u8
     ensures { result ≡ (arith_lane Min false x y).byte }
 {
-    select::either(x < y, x, y)
+    x.min(y)
 }
 
 pub fn vmax_u(x: u8, y: u8) -> u8
     ensures { result ≡ (arith_lane Max false x y).byte }
 {
-    select::either(x < y, y, x)
+    x.max(y)
 }
 
-// The sum went past 255 where it comes out below x.
 pub fn vadd_u(x: u8, y: u8) -> u8
     ensures { result ≡ (arith_lane Add false x y).byte }
 {
-    let t = std::num::wrapping_add_u8(x, y);
-    select::either(t < x, 255, t)
+    x.saturating_add(y)
 }
 
 // Bit 8 of a sum of two bytes, from bit 7 of both and of the sum's low byte.
 fn carry(x: u8, y: u8) -> u8
     ensures { result ≡ (x + y) / 256 }
 {
-    let t = std::num::wrapping_add_u8(x, y);
+    let t = x.wrapping_add(y);
     ((x & y) | ((x | y) & (t ^ 255))) / 128
 }
 
 pub fn vadd_u_clipped(x: u8, y: u8) -> u8
     ensures { result ≡ (if (arith_lane Add false x y).sign then 255 else 0) }
 {
-    std::num::wrapping_sub_u8(0, carry(x, y))
+    carry(x, y).wrapping_neg()
 }
 
-// The difference went below 0 where it comes out above x.
 pub fn vsub_u(x: u8, y: u8) -> u8
     ensures { result ≡ (arith_lane Sub false x y).byte }
 {
-    let t = std::num::wrapping_sub_u8(x, y);
-    select::either(x < t, 0, t)
+    x.saturating_sub(y)
 }
 
 // y is above x where y and 255 - x make a carry.
 pub fn vsub_u_clipped(x: u8, y: u8) -> u8
     ensures { result ≡ (if (arith_lane Sub false x y).sign then 255 else 0) }
 {
-    std::num::wrapping_sub_u8(0, carry(y, 255 - x))
+    carry(y, !x).wrapping_neg()
 }

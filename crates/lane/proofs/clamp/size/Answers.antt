@@ -1,7 +1,7 @@
 -- `lane::clamp::size` meets its contract.
-use Rattle.std.proofs.Common.{◌∙◌}
-use Rattle.lane.proofs.Biased.{size}
+use Rattle.std.proofs.Common.{ap, ◌∙◌, nat_abs}
+use Rattle.lane.proofs.Biased.{signed_back}
 use Rattle.lane.proofs.clamp.size.Goals as goal
 
 pub returns : goal.returns
-returns c = let w = c.wrapping_sub_u8 in c.either.ensures ∙ size _ c.ranges.x.fits _ w.type_inv w.ensures.value
+returns c = c.unsigned_abs.ensures.value ∙ ap nat_abs (signed_back c.args.x c.ranges.x.fits c.cast_signed.ensures)

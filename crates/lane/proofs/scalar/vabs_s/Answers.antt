@@ -1,6 +1,7 @@
 -- `lane::scalar::vabs_s` meets its contract.
 use Rattle.lane.proofs.Operations.{abs_signed}
+use Rattle.lane.proofs.Biased.{signed_back}
 use Rattle.lane.proofs.scalar.vabs_s.Goals as goal
 
 pub returns : goal.returns
-returns c = let n = c.wrapping_sub_u8 in abs_signed _ _ c.ranges.x.fits n.type_inv n.ensures.value c.either-z.ensures c.either.ensures
+returns c = rw (c.min.ensures, c.unsigned_abs.ensures.value, signed_back c.args.x c.ranges.x.fits c.cast_signed.ensures) (abs_signed c.args.x)

@@ -1,6 +1,7 @@
 -- `lane::scalar::vsub_s_clipped` meets its contract.
+use Rattle.std.proofs.Common.{arith}
 use Rattle.lane.proofs.Outside.{difference_told}
 use Rattle.lane.proofs.scalar.vsub_s_clipped.Goals as goal
 
 pub returns : goal.returns
-returns c = let t = c.wrapping_sub_u8-t in let f = c.ranges in difference_told _ _ _ f.x.fits f.y.fits t.type_inv t.ensures.value
+returns c = difference_told _ _ _ c.ranges.x.fits c.ranges.y.fits (omega arith) (omega (arith, c.ranges.x.fits, c.ranges.y.fits))
