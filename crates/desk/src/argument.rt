@@ -1,69 +1,33 @@
 // The command `explain`: its arguments are read as lines of a listing.
-ghost use Rattle.text.specs.Counts.{IsPrefixLen};
-
 use crate::explain::explain;
-use crate::{asked, lines, tell};
-use orders::{Order, read};
+use crate::lines::clean;
+use crate::tell;
+use crate::tell::Told;
+use orders::{Fault, read};
 use std::env::Env;
-use std::io::Stderr;
+use text::find::feed;
 
-// Whether the argument is not too long, and how many bytes are left of its first line.
-#[derive(Clone, Copy)]
-struct Got {
-    good: bool,
-    length: usize,
-}
-
-// Puts what is left of the first line of argument i at the start of room.
-fn argument(rt: HostRuntime, i: usize, room: &mut [u8]) -> Got
-    ensures { IsPrefixLen result.length room.new }
+// What argument i is, read as a line of a listing: only what stands before a line feed. What is wrong with it is told.
+fn read_as<T, F: Fn(&[u8]) -> Result<T, Fault>>(rt: HostRuntime, i: usize, read: F) -> Result<T, Told>
+    requires { F.IsAlwaysCallable read }
 {
-    let mut text = [0u8; 4096];
-    let got = rt.arg(i, &mut text);
-    let good = got.is_ok();
-    let n = got.unwrap_or(0);
-    let l = lines::line(&text[..n], 0, room);
-    Got {
-        good,
-        length: l.length,
-    }
+    let err = rt.stderr();
+    let mut text = [0; 4096];
+    let mut room = [0; 4096];
+    let Ok(n) = rt.arg(i, &mut text) else {
+        return Err(tell::long_argument(err));
+    };
+    let first = text[..n].split(|&b| feed(b)).next().unwrap_or(&[]);
+    let line = clean(first, &mut room);
+    read(line).map_err(|f| tell::argument(err, line, f))
 }
 
-// The order of a line that is a step or, for a base, what `.set $a0` takes. Wrong is told.
-fn ordered(err: Stderr, line: &[u8], base: bool) -> Order {
-    let o = if base {
-        read::value(line)
-    } else {
-        read::step(line)
+// Argument i is the step, and another one, where it is given, the value of its base register.
+pub fn explained(rt: HostRuntime, step: usize, base: Option<usize>) -> Result<u32, Told> {
+    let t = read_as(rt, step, read::step)?;
+    let value = match base {
+        Some(i) => read_as(rt, i, read::value)?.value,
+        None => 0,
     };
-    if let Order::Wrong(fault) = o {
-        tell::argument(err, line, fault);
-    }
-    o
-}
-
-// The order that argument i is.
-fn order_of(rt: HostRuntime, i: usize, base: bool) -> Order {
-    let mut room = [0u8; 4096];
-    let got = argument(rt, i, &mut room);
-    if !got.good {
-        tell::long_argument(rt.stderr());
-        return Order::Nothing;
-    }
-    let n = got.length;
-    ordered(rt.stderr(), &room[..n], base)
-}
-
-// Argument i is the step, and the one behind it, where there is one, its base.
-pub fn explained(rt: HostRuntime, i: usize, with_base: bool) -> u32 {
-    let Order::Step(t) = order_of(rt, i, false) else {
-        return 2;
-    };
-    if !with_base {
-        return explain(rt.stdout(), t, 0);
-    }
-    let Order::Set(p) = order_of(rt, asked::behind(i), true) else {
-        return 2;
-    };
-    explain(rt.stdout(), t, p.value)
+    Ok(explain(rt.stdout(), t, value))
 }

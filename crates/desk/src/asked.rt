@@ -1,92 +1,100 @@
-// What the arguments ask for: the command, and the options behind it.
+// What the arguments ask for: the command, the options behind it, and the arguments that it is about.
 use text::args;
-use text::find::same;
 
-#[derive(Clone, Copy)]
-pub enum Command {
+#[derive(Clone, Copy, PartialEq, Eq)]
+enum Command {
     Run,
     Check,
     Explain,
-    Unknown,
 }
 
-// The options, whether one of them is none, and the number of the first argument behind them.
+// Whether the status is to be told, on descriptor 3; and how `run` shows what is left: that alone, and all of it.
 #[derive(Clone, Copy)]
 pub struct Options {
     pub tell: bool,
     pub quiet: bool,
     pub all: bool,
-    pub unknown: bool,
-    pub first: usize,
 }
 
-pub fn first_word(rt: HostRuntime) -> Command {
-    let mut word = [0u8; 8];
+// What is to be done, by the numbers of the arguments: run the listings from one on, check one against the next, explain one whose base register another one is.
+#[derive(Clone, Copy)]
+pub enum Task {
+    Run(Options, usize),
+    Check(usize, usize),
+    Explain(usize, Option<usize>),
+}
+
+// The task is missing where the arguments are not as they should be.
+#[derive(Clone, Copy)]
+pub struct Asked {
+    pub tell: bool,
+    pub task: Option<Task>,
+}
+
+fn command(rt: HostRuntime) -> Option<Command> {
+    let mut word = [0; 8];
     let n = args::whole(rt, 1, &mut word);
-    if same(&word[..n], b"run") {
-        return Command::Run;
-    }
-    if same(&word[..n], b"check") {
-        return Command::Check;
-    }
-    if same(&word[..n], b"explain") {
-        return Command::Explain;
-    }
-    Command::Unknown
-}
-
-fn runs(command: Command) -> bool {
-    match command {
-        Command::Run => true,
-        _ => false,
+    match &word[..n] {
+        b"run" => Some(Command::Run),
+        b"check" => Some(Command::Check),
+        b"explain" => Some(Command::Explain),
+        _ => None,
     }
 }
 
-// The options with that of argument i, if it is one: else its number is the first of the others. Only `run` has more than --tell, and takes no other word with -- before
-// its files, so that an option that is misspelt is no file.
-fn with(rt: HostRuntime, o: Options, i: usize, run: bool) -> Options {
-    let mut word = [0u8; 8];
-    let n = args::whole(rt, i, &mut word);
-    let mut after = o;
-    if same(&word[..n], b"--tell") {
-        after.tell = true;
-    } else if run && same(&word[..n], b"--quiet") {
-        after.quiet = true;
-    } else if run && same(&word[..n], b"--all") {
-        after.all = true;
-    } else {
-        after.first = i;
-        after.unknown = run && word[0] == b'-' && word[1] == b'-';
+// The options with that of a word, if it is one. Only `run` has more than --tell.
+fn with(o: Options, word: &[u8], run: bool) -> Option<Options> {
+    match word {
+        b"--tell" => Some(Options { tell: true, ..o }),
+        b"--quiet" if run => Some(Options { quiet: true, ..o }),
+        b"--all" if run => Some(Options { all: true, ..o }),
+        _ => None,
     }
-    after
 }
 
-pub fn read(rt: HostRuntime, command: Command) -> Options {
-    let run = runs(command);
-    let count = args::count(rt);
+// The options, and the number of the first argument behind them.
+fn options(rt: HostRuntime, run: bool) -> (Options, usize) {
     let mut o = Options {
         tell: false,
         quiet: false,
         all: false,
-        unknown: false,
-        first: count,
     };
+    let count = args::count(rt);
     for i in 2..count {
-        o = with(rt, o, i, run);
-        if o.first == i {
-            return o;
+        let mut word = [0; 8];
+        let n = args::whole(rt, i, &mut word);
+        match with(o, &word[..n], run) {
+            Some(more) => o = more,
+            None => return (o, i),
         }
     }
-    o
+    (o, count)
 }
 
-// How many arguments there are from this one on.
-pub fn left(rt: HostRuntime, first: usize) -> usize {
-    let count = args::count(rt);
-    if first < count { count - first } else { 0 }
+// Whether an argument begins as an option does. `run` takes no such word before its files, so that an option that is misspelt is no file.
+fn dashed(rt: HostRuntime, i: usize) -> bool {
+    let mut word = [0; 2];
+    args::beginning(rt, i, &mut word) == 2 && word == *b"--"
 }
 
-// The number of the argument behind this one: there are fewer arguments than numbers.
-pub fn behind(i: usize) -> usize {
-    std::num::wrapping_add_usize(i, 1)
+fn task(rt: HostRuntime, command: Command, o: Options, first: usize) -> Option<Task> {
+    let left = args::count(rt).saturating_sub(first);
+    // There are fewer arguments than numbers.
+    let behind = first.wrapping_add(1);
+    match (command, left) {
+        (Command::Run, 1..) if !dashed(rt, first) => Some(Task::Run(o, first)),
+        (Command::Check, 2) => Some(Task::Check(first, behind)),
+        (Command::Explain, 1) => Some(Task::Explain(first, None)),
+        (Command::Explain, 2) => Some(Task::Explain(first, Some(behind))),
+        _ => None,
+    }
+}
+
+pub fn read(rt: HostRuntime) -> Asked {
+    let command = command(rt);
+    let (o, first) = options(rt, command == Some(Command::Run));
+    Asked {
+        tell: o.tell,
+        task: command.and_then(|c| task(rt, c, o, first)),
+    }
 }

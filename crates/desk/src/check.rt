@@ -1,81 +1,43 @@
-// What is written of a listing that is checked: it is run in silence, and what it leaves is compared with what is expected.
+// The command `check`: a listing is run in silence, and what it leaves is compared with what is expected.
 use crate::compare::Tally;
-use crate::pages::Found;
-use crate::{compare, pages, source, start, steps};
+use crate::expected::Wishes;
+use crate::listing::Listing;
+use crate::pages::Rooms;
+use crate::steps::Run;
+use crate::tell::Told;
+use crate::{compare, pages, start};
 use std::io::Stdout;
-use text::print::{decimal, text};
+use text::print::text;
 
 // The last line, and the status.
 fn verdict(out: Stdout, file: &[u8], t: Tally) -> u32 {
     text(out, file);
-    if t.differ == 0 {
-        text(out, b": as expected, ");
-        decimal(out, t.compared as u64);
-        text(out, b" compared\n");
+    let differ = t.differ;
+    let compared = t.compared;
+    if differ == 0 {
+        let _ = println!(out; ": as expected, {compared} compared");
         return 0;
     }
-    text(out, b": ");
-    decimal(out, t.differ as u64);
-    text(out, b" of ");
-    decimal(out, t.compared as u64);
-    text(out, b" differ\n");
+    let _ = println!(out; ": {differ} of {compared} differ");
     1
 }
 
-// A listing without a fault against the file that argument i names. Where this sets the start, the listing does not.
-pub fn check(
-    rt: HostRuntime,
-    i: usize,
-    f: Found,
-    file: &[u8],
-    text: &[u8],
-    words: &mut [u32; 3072],
-    ds: &mut [u8; 8192],
-    a: &mut [u32; 32],
-    r: &mut [u32; 32],
-    c: &mut [u32; 4],
-    vc: &mut [u32; 4],
-    v: &mut [u8; 512],
-) -> u32 {
-    let mut name = [0u8; 65536];
-    let mut page = [0u8; 65536];
-    let got = source::read(rt, b"check", i, &mut name, &mut page);
-    if !got.good {
-        return 2;
-    }
-    let n = got.name;
-    let m = got.length;
-    let wanted = &page[..m];
-    let g = pages::read(
-        rt.stderr(),
-        pages::between(f),
-        b"check",
-        &name[..n],
-        wanted,
-        words,
-    );
-    if !g.good {
-        return 2;
-    }
-    if g.starts {
-        start::set(wanted, ds, a, r, c, vc, v);
+// The listing that argument i names against the file that argument j names. Where this sets the start, the listing does not.
+pub fn check(rt: HostRuntime, i: usize, j: usize) -> Result<u32, Told> {
+    let out = rt.stdout();
+    let mut rooms = Rooms::new();
+    let mut listing = Listing::new();
+    let page = pages::open(rt, "check", i, &mut rooms, &mut listing)?;
+    let mut more_rooms = Rooms::new();
+    let mut wishes = Wishes::new();
+    let wanted = pages::open(rt, "check", j, &mut more_rooms, &mut wishes)?;
+    let sets = if wishes.start.is_some() {
+        wanted.text
     } else {
-        start::set(text, ds, a, r, c, vc, v);
-    }
-    let mut banks = [0u32; 16];
-    let total = steps::run(rt.stdout(), g, false, words, &mut banks, ds, a, r, c, vc, v);
-    let t = compare::compare(
-        rt.stdout(),
-        g.answers,
-        wanted,
-        total,
-        &banks,
-        ds,
-        a,
-        r,
-        c,
-        vc,
-        v,
-    );
-    verdict(rt.stdout(), file, t)
+        page.text
+    };
+    let mut run = Run::from_state(start::set(sets));
+    run.run(out, false, listing.steps(), wishes.start.or(listing.start));
+    let t = compare::compare(out, &run, wishes.answers, wanted.text);
+    Ok(verdict(out, page.name, t))
 }

@@ -1,209 +1,102 @@
 // What a run has left, compared with the lines of a file of what is expected.
 use crate::expected::dotted;
-use crate::lines;
-use crate::steps::Total;
+use crate::lines::clean;
+use crate::steps::Run;
 use orders::read::expected;
-use orders::{Expected, Part, Subject, bytes};
+use orders::{Expected, Subject};
 use shown::cells::print_banks;
-use shown::registers::word_of;
 use shown::subjects::{bytes_of, subject};
 use shown::{figures, phrases};
 use std::io::Stdout;
-use text::count::one_more;
-use text::find::same;
-use text::print::{decimal, quote, text};
+use terms::End;
+use text::find::feed;
+use text::print::{quote, text};
 
-// How many lines there were, how many of them were compared, and how many of these differ.
+// How many lines were compared, and how many of these differ.
 #[derive(Clone, Copy)]
 pub struct Tally {
-    lines: u32,
     pub compared: u32,
     pub differ: u32,
 }
 
-// ---- whether a line agrees
-
-fn part_agrees(p: Part, a: &[u32], r: &[u32], c: &[u32], vc: &[u32]) -> bool {
-    let kind = p.kind;
-    word_of(kind, p.n, a, r, c, vc) & p.mask == p.value
-}
-
-fn bytes_agree(s: Subject, line: &[u8], at: usize, ds: &[u8], v: &[u8]) -> bool {
-    let wanted = bytes::sixteen(line, at);
-    let left = bytes_of(s, ds, v);
-    same(&wanted, &left)
-}
-
-fn same_counts(x: &[u32; 16], y: &[u32; 16]) -> bool {
-    for i in 0..16 {
-        if x[i] != y[i] {
-            return false;
+impl Tally {
+    // With one line more. Wrapping, since a bound on the lines is of no use to any caller.
+    fn add(&mut self, agrees: bool) {
+        self.compared = self.compared.wrapping_add(1);
+        if !agrees {
+            self.differ = self.differ.wrapping_add(1);
         }
     }
-    true
 }
 
-fn banks_agree(line: &[u8], at: usize, banks: &[u32; 16]) -> bool {
-    let wanted = bytes::banks(line, at);
-    same_counts(&wanted, banks)
-}
-
-fn agrees(
-    e: Expected,
-    line: &[u8],
-    total: Total,
-    banks: &[u32; 16],
-    ds: &[u8],
-    a: &[u32],
-    r: &[u32],
-    c: &[u32],
-    vc: &[u32],
-    v: &[u8],
-) -> bool {
+fn agrees(e: Expected, run: &Run) -> bool {
     match e {
-        Expected::Part(p) => part_agrees(p, a, r, c, vc),
-        Expected::Sixteen(s, at) => bytes_agree(s, line, at, ds, v),
-        Expected::Answer(n) => total.answer == n,
-        Expected::Steps(n) => total.steps == n,
-        Expected::Cells(n) => total.counts.accesses == n as u64,
-        Expected::Clipped(n) => total.counts.clipped == n as u64,
-        Expected::Banks(at) => banks_agree(line, at, banks),
-        _ => true,
+        Expected::Part(p) => run.state.word(p.kind, p.n) & p.mask == p.value,
+        Expected::Sixteen(s, wanted) => bytes_of(&run.state, s) == wanted,
+        Expected::Answer(n) => u32::from(run.end) == n,
+        Expected::Steps(n) => run.steps == n,
+        Expected::Cells(n) => run.counts.accesses == u64::from(n),
+        Expected::Clipped(n) => run.counts.clipped == u64::from(n),
+        Expected::Banks(wanted) => run.banks == wanted,
     }
 }
 
-// ---- what is written of one that does not
-
-fn begin(out: Stdout, number: u32, what: &[u8]) {
-    text(out, b"line ");
-    decimal(out, number as u64);
-    text(out, what);
-}
-
-// What the run has left of the thing that the line speaks of.
-fn found(
-    out: Stdout,
-    e: Expected,
-    total: Total,
-    banks: &[u32; 16],
-    ds: &[u8],
-    a: &[u32],
-    r: &[u32],
-    c: &[u32],
-    vc: &[u32],
-    v: &[u8],
-) {
+// What the run has left of the thing that a line speaks of.
+fn found(out: Stdout, e: Expected, run: &Run) {
     match e {
-        Expected::Part(p) => {
-            let kind = p.kind;
-            subject(out, Subject::Word(kind, p.n), ds, a, r, c, vc, v)
-        }
-        Expected::Sixteen(s, _) => subject(out, s, ds, a, r, c, vc, v),
-        Expected::Answer(_) => phrases::answer(out, total.answer),
-        Expected::Steps(_) => figures::line(out, b"steps ", total.steps as u64),
-        Expected::Cells(_) => figures::line(out, b"cells ", total.counts.accesses),
-        Expected::Clipped(_) => figures::line(out, b"clipped ", total.counts.clipped),
-        Expected::Banks(_) => print_banks(out, banks),
-        _ => {}
+        Expected::Part(p) => subject(out, Subject::Word(p.kind, p.n), &run.state),
+        Expected::Sixteen(s, _) => subject(out, s, &run.state),
+        Expected::Answer(_) => phrases::answer(out, run.end),
+        Expected::Steps(_) => figures::line(out, "steps", u64::from(run.steps)),
+        Expected::Cells(_) => figures::line(out, "cells", run.counts.accesses),
+        Expected::Clipped(_) => figures::line(out, "clipped", run.counts.clipped),
+        Expected::Banks(_) => print_banks(out, &run.banks),
     }
 }
 
-fn tallied(t: Tally, agrees: bool) -> Tally {
-    let mut after = t;
-    after.compared = one_more(t.compared);
-    if !agrees {
-        after.differ = one_more(t.differ);
-    }
-    after
-}
-
-// A line that is compared.
-fn one(
-    out: Stdout,
-    t: Tally,
-    line: &[u8],
-    total: Total,
-    banks: &[u32; 16],
-    ds: &[u8],
-    a: &[u32],
-    r: &[u32],
-    c: &[u32],
-    vc: &[u32],
-    v: &[u8],
-) -> Tally {
-    let e = expected(line);
-    let good = agrees(e, line, total, banks, ds, a, r, c, vc, v);
-    if !good {
-        begin(out, t.lines, b": expected ");
-        quote(out, line, 128);
-        text(out, b"\n");
-        begin(out, t.lines, b": found ");
-        found(out, e, total, banks, ds, a, r, c, vc, v);
-    }
-    tallied(t, good)
-}
-
-// Any line: those that begin with a dot have set the start.
-fn next(
-    out: Stdout,
-    t: Tally,
-    line: &[u8],
-    total: Total,
-    banks: &[u32; 16],
-    ds: &[u8],
-    a: &[u32],
-    r: &[u32],
-    c: &[u32],
-    vc: &[u32],
-    v: &[u8],
-) -> Tally {
-    let mut here = t;
-    here.lines = one_more(t.lines);
-    if line.len() == 0 || dotted(line) {
-        return here;
-    }
-    one(out, here, line, total, banks, ds, a, r, c, vc, v)
+// The two lines of a line that differs; the first one's number is 0.
+fn differs(out: Stdout, i: usize, line: &[u8], e: Expected, run: &Run) {
+    let number = i.wrapping_add(1);
+    let _ = print!(out; "line {number}: expected ");
+    quote(out, line, 128);
+    let _ = print!(out; "\nline {number}: found ");
+    found(out, e, run);
 }
 
 // The answer 0 that is expected where no line has an answer.
-fn unsaid(out: Stdout, answers: bool, answer: u32) -> Tally {
-    let none = Tally {
-        lines: 0,
+fn unsaid(out: Stdout, answers: bool, end: End) -> Tally {
+    let mut t = Tally {
         compared: 0,
         differ: 0,
     };
     if answers {
-        return none;
+        return t;
     }
-    if answer != 0 {
+    let done = end == End::Done;
+    if !done {
         text(out, b"line 0: expected answer 0\nline 0: found ");
-        phrases::answer(out, answer);
+        phrases::answer(out, end);
     }
-    tallied(none, answer == 0)
+    t.add(done);
+    t
 }
 
-// Goes over the lines, which are good. `answers` says that one of them has an answer.
-pub fn compare(
-    out: Stdout,
-    answers: bool,
-    text: &[u8],
-    total: Total,
-    banks: &[u32; 16],
-    ds: &[u8],
-    a: &[u32],
-    r: &[u32],
-    c: &[u32],
-    vc: &[u32],
-    v: &[u8],
-) -> Tally {
-    let mut room = [0u8; 65536];
-    let mut t = unsaid(out, answers, total.answer);
-    let mut at = 0;
-    while at < text.len() {
-        let l = lines::line(text, at, &mut room);
-        let n = l.length;
-        t = next(out, t, &room[..n], total, banks, ds, a, r, c, vc, v);
-        at = l.next;
+// Goes over the lines, which are good: those that begin with a dot have set the start. `answers` says that one of them has an answer.
+pub fn compare(out: Stdout, run: &Run, answers: bool, text: &[u8]) -> Tally {
+    let mut room = [0; 65536];
+    let mut t = unsaid(out, answers, run.end);
+    for (i, raw) in text.split(|&b| feed(b)).enumerate() {
+        let line = clean(raw, &mut room);
+        if dotted(line) {
+            continue;
+        }
+        if let Ok(Some(e)) = expected(line) {
+            let agrees = agrees(e, run);
+            if !agrees {
+                differs(out, i, line, e, run);
+            }
+            t.add(agrees);
+        }
     }
     t
 }

@@ -1,46 +1,65 @@
-// A line of a file of what is expected: one that sets the start, or one that is compared after the run.
-use crate::pages::{Found, Taken, started};
+// A file of what is expected: its lines set the start, or are compared after the run.
+use crate::pages::{Contents, Start, started};
+use crate::tell::Wrong;
 use orders::cursor::fault;
-use orders::read::sets;
-use orders::{Expected, Order, Wanted, read};
-use text::count::one_more;
+use orders::read::{sets, start};
+use orders::{Expected, Fault, Wanted, read};
 
-fn dot(f: Found, line: &[u8]) -> Taken {
-    if f.compared > 0 && sets(line) {
-        return Taken::Wrong(fault(line, 0, Wanted::BeforeCompared));
-    }
-    let o = read::start(line);
-    if let Order::Wrong(fault) = o {
-        return Taken::Wrong(fault);
-    }
-    Taken::Good(started(f, o))
+// Whether a line is compared, and an answer is among these; and what the dot lines set.
+#[derive(Clone, Copy)]
+pub struct Wishes {
+    compares: bool,
+    pub answers: bool,
+    pub start: Option<Start>,
 }
 
-fn compared(f: Found, line: &[u8]) -> Taken {
-    let mut after = f;
-    after.compared = one_more(f.compared);
-    let e = read::expected(line);
-    match e {
-        Expected::Wrong(fault) => Taken::Wrong(fault),
-        Expected::Answer(_) => {
-            after.answers = true;
-            Taken::Good(after)
+impl Wishes {
+    pub fn new() -> Wishes {
+        Wishes {
+            compares: false,
+            answers: false,
+            start: None,
         }
-        _ => Taken::Good(after),
+    }
+
+    fn dot(&mut self, line: &[u8]) -> Result<(), Fault> {
+        if self.compares && sets(line) {
+            return Err(fault(line, 0, Wanted::BeforeCompared));
+        }
+        if let Some(o) = start(line)? {
+            self.start = started(self.start, o);
+        }
+        Ok(())
+    }
+
+    fn compared(&mut self, line: &[u8]) -> Result<(), Fault> {
+        let e = read::expected(line)?;
+        self.compares = true;
+        if matches!(e, Some(Expected::Answer(_))) {
+            self.answers = true;
+        }
+        Ok(())
     }
 }
 
 // Whether the line begins with a dot.
 pub fn dotted(line: &[u8]) -> bool {
-    if line.len() == 0 {
-        return false;
-    }
-    line[0] == b'.'
+    line.starts_with(b".")
 }
 
-pub fn take(f: Found, line: &[u8]) -> Taken {
-    if dotted(line) {
-        return dot(f, line);
+impl Contents for Wishes {
+    fn take(&mut self, line: &[u8]) -> Result<(), Fault> {
+        if dotted(line) {
+            return self.dot(line);
+        }
+        self.compared(line)
     }
-    compared(f, line)
+
+    fn ended(&self) -> Result<(), Wrong> {
+        if self.compares {
+            Ok(())
+        } else {
+            Err(Wrong::NoneCompared)
+        }
+    }
 }

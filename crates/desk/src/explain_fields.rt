@@ -1,44 +1,38 @@
 // The fields of an instruction word that the operands of its line come from.
-use shown::figures::{numbered, prefixed};
 use std::io::Stdout;
-use text::print::{decimal, text};
+use text::print::text;
 
-fn plain(out: Stdout, name: &[u8], value: u32) {
-    numbered(out, name, value as u64);
+fn plain(out: Stdout, name: &str, value: u32) {
+    let _ = print!(out; ", {name} {value}");
 }
 
-fn digits(out: Stdout, name: &[u8], value: u32) {
-    text(out, name);
-    prefixed(out, value as u64, 1);
+fn digits(out: Stdout, name: &str, value: u32) {
+    let _ = print!(out; ", {name} 0x{value:x}");
 }
 
 // Eleven bits with a sign.
-fn signed(out: Stdout, name: &[u8], value: u32) {
-    text(out, name);
-    if value < 1024 {
-        decimal(out, value as u64);
-        return;
-    }
-    text(out, b"-");
-    decimal(out, 2048 - value as u64 % 2048);
+fn signed(out: Stdout, name: &str, value: u32) {
+    let value = i64::from(value % 2048);
+    let value = if value < 1024 { value } else { value - 2048 };
+    let _ = print!(out; ", {name} {value}");
 }
 
 // The field of an operand, by the operand's number in the table of `names`. `$vc` has none.
 fn field(out: Stdout, operand: u32, word: u32) {
     match operand {
-        1 | 4 | 6 => plain(out, b", DST ", word >> 19 & 31),
-        2 | 5 | 7 => plain(out, b", SRC1 ", word >> 14 & 31),
-        3 | 8 => plain(out, b", SRC2 ", word >> 9 & 31),
-        9 => plain(out, b", SRC3 ", word >> 4 & 31),
-        10 => plain(out, b", CDST ", word & 7),
-        11 => plain(out, b", VCDST ", word & 7),
-        13 => digits(out, b", BIMM ", word >> 3 & 0xff),
-        14 => digits(out, b", UIMM ", word >> 3 & 0x7ff),
-        15 => signed(out, b", IMM ", word >> 3 & 0x7ff),
-        16 => digits(out, b", IMM16 ", word & 0xffff),
-        17 => digits(out, b", BITOP ", word >> 3 & 15),
-        18 => digits(out, b", CMPOP ", word >> 19 & 15),
-        19 => plain(out, b", SWZLOHI ", word >> 3 & 1),
+        1 | 4 | 6 => plain(out, "DST", word >> 19 & 31),
+        2 | 5 | 7 => plain(out, "SRC1", word >> 14 & 31),
+        3 | 8 => plain(out, "SRC2", word >> 9 & 31),
+        9 => plain(out, "SRC3", word >> 4 & 31),
+        10 => plain(out, "CDST", word & 7),
+        11 => plain(out, "VCDST", word & 7),
+        13 => digits(out, "BIMM", word >> 3 & 0xff),
+        14 => digits(out, "UIMM", word >> 3 & 0x7ff),
+        15 => signed(out, "IMM", word >> 3 & 0x7ff),
+        16 => digits(out, "IMM16", word & 0xffff),
+        17 => digits(out, "BITOP", word >> 3 & 15),
+        18 => digits(out, "CMPOP", word >> 19 & 15),
+        19 => plain(out, "SWZLOHI", word >> 3 & 1),
         _ => {}
     }
 }
@@ -46,8 +40,7 @@ fn field(out: Stdout, operand: u32, word: u32) {
 // The line of the fields. The operands are the digits of a number in base 32, the first one's lowest.
 pub fn fields(out: Stdout, word: u32) {
     let opcode = word / 16777216;
-    text(out, b"fields opcode ");
-    prefixed(out, opcode as u64, 2);
+    let _ = print!(out; "fields opcode 0x{opcode:02x}");
     let mut operands = names::form_of(opcode);
     while operands != 0 {
         field(out, operands % 32, word);

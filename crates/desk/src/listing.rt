@@ -1,46 +1,81 @@
-// A line of a listing: a step is put down, and all else is counted.
-use crate::pages::{Found, Taken, started};
+// A listing: its steps are put down, and all else is counted.
+use crate::pages::{Contents, Start, started};
+use crate::tell::Wrong;
 use orders::cursor::{fault, whole};
 use orders::read::{order, sets};
-use orders::{Order, Triple, Wanted};
+use orders::{Fault, Order, Triple, Wanted};
 
-pub const MOST_STEPS: usize = 1024;
+const MOST_STEPS: usize = 1024;
 
 const MOST_SHOWS: usize = 64;
 
-fn step(f: Found, line: &[u8], t: Triple, words: &mut [u32; 3072]) -> Taken {
-    let i = f.steps;
-    if i >= MOST_STEPS {
-        return Taken::Wrong(whole(line, Wanted::Steps));
-    }
-    words[3 * i] = t.word;
-    words[3 * i + 1] = t.side;
-    words[3 * i + 2] = t.mask;
-    let mut after = f;
-    after.steps = i + 1;
-    Taken::Good(after)
+// The steps, the first `count` of an array, since nothing is allocated; how many .show lines there are; and what the dot lines set.
+#[derive(Drop)]
+pub struct Listing {
+    steps: [Triple; MOST_STEPS],
+    count: usize,
+    shows: usize,
+    pub start: Option<Start>,
 }
 
-// What is to be shown is not put down: the listing is gone over again at the end.
-fn show(f: Found, line: &[u8]) -> Taken {
-    let n = f.shows;
-    if n >= MOST_SHOWS {
-        return Taken::Wrong(whole(line, Wanted::Shows));
+impl Listing {
+    pub fn new() -> Listing {
+        let none = Triple {
+            word: 0,
+            side: 0,
+            mask: 0,
+        };
+        Listing {
+            steps: [none; MOST_STEPS],
+            count: 0,
+            shows: 0,
+            start: None,
+        }
     }
-    let mut after = f;
-    after.shows = n + 1;
-    Taken::Good(after)
+
+    pub fn steps(&self) -> &[Triple] {
+        self.steps.get(..self.count).unwrap_or(&[])
+    }
+
+    fn step(&mut self, line: &[u8], t: Triple) -> Result<(), Fault> {
+        let Some(place) = self.steps.get_mut(self.count) else {
+            return Err(whole(line, Wanted::Steps));
+        };
+        *place = t;
+        self.count += 1;
+        Ok(())
+    }
+
+    // What is to be shown is not put down: the listing is gone over again at the end.
+    fn show(&mut self, line: &[u8]) -> Result<(), Fault> {
+        if self.shows >= MOST_SHOWS {
+            return Err(whole(line, Wanted::Shows));
+        }
+        self.shows += 1;
+        Ok(())
+    }
 }
 
-pub fn take(f: Found, line: &[u8], words: &mut [u32; 3072]) -> Taken {
-    if f.steps > 0 && sets(line) {
-        return Taken::Wrong(fault(line, 0, Wanted::BeforeStep));
+impl Contents for Listing {
+    fn take(&mut self, line: &[u8]) -> Result<(), Fault> {
+        if self.count > 0 && sets(line) {
+            return Err(fault(line, 0, Wanted::BeforeStep));
+        }
+        match order(line)? {
+            Some(Order::Step(t)) => self.step(line, t),
+            Some(Order::Show(_)) => self.show(line),
+            Some(o) => {
+                self.start = started(self.start, o);
+                Ok(())
+            }
+            None => Ok(()),
+        }
     }
-    let o = order(line);
-    match o {
-        Order::Step(t) => step(f, line, t, words),
-        Order::Show(_) => show(f, line),
-        Order::Wrong(fault) => Taken::Wrong(fault),
-        _ => Taken::Good(started(f, o)),
+
+    fn ended(&self) -> Result<(), Wrong> {
+        if self.count == 0 && self.shows == 0 && self.start.is_none() {
+            return Err(Wrong::NoStep);
+        }
+        Ok(())
     }
 }

@@ -3,12 +3,12 @@
 
 mod argument;
 mod asked;
+mod calls;
 mod check;
 mod compare;
 mod expected;
 mod explain;
 mod explain_fields;
-mod jobs;
 mod lines;
 mod listing;
 mod pages;
@@ -18,45 +18,23 @@ mod start;
 mod steps;
 mod tell;
 
-use crate::asked::{Command, Options};
-use std::io::Stderr;
-
-fn usage(err: Stderr) -> u32 {
-    tell::usage(err);
-    2
-}
-
-fn explained(rt: HostRuntime, o: Options, words: usize) -> u32 {
-    match words {
-        1 => argument::explained(rt, o.first, false),
-        2 => argument::explained(rt, o.first, true),
-        _ => usage(rt.stderr()),
-    }
-}
+use crate::asked::Task;
+use crate::tell::Told;
 
 // Does what is asked for, and answers the status.
-fn done(rt: HostRuntime, command: Command, o: Options, words: usize) -> u32 {
-    match command {
-        Command::Run => if words > 0 && !o.unknown {
-            jobs::run_all(rt, o, words)
-        } else {
-            usage(rt.stderr())
-        },
-        Command::Check => if words == 2 {
-            jobs::check_one(rt, o)
-        } else {
-            usage(rt.stderr())
-        },
-        Command::Explain => explained(rt, o, words),
-        Command::Unknown => usage(rt.stderr()),
+fn done(rt: HostRuntime, task: Option<Task>) -> Result<u32, Told> {
+    match task {
+        Some(Task::Run(o, first)) => Ok(run::all(rt, o, first)),
+        Some(Task::Check(listing, expected)) => check::check(rt, listing, expected),
+        Some(Task::Explain(step, base)) => argument::explained(rt, step, base),
+        None => Err(tell::usage(rt.stderr())),
     }
 }
 
 fn main(rt: HostRuntime) {
-    let command = asked::first_word(rt);
-    let o = asked::read(rt, command);
-    let status = done(rt, command, o, asked::left(rt, o.first));
-    if o.tell {
+    let asked = asked::read(rt);
+    let status = done(rt, asked.task).unwrap_or(Told::STATUS);
+    if asked.tell {
         text::say::status(rt, status);
     }
 }

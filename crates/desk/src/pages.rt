@@ -1,148 +1,81 @@
-// A listing, or a file of what is expected, looked at line by line up to the first fault. Its steps are put down; what sets the start is done afterwards, by `start`.
-use crate::{expected, lines, listing, tell};
+// A listing, or a file of what is expected, looked at line by line up to the first fault. What sets the start is done afterwards, by `start`.
+use crate::lines::clean;
+use crate::tell::{Told, Wrong};
+use crate::{source, tell};
 use orders::{Fault, Order};
-use std::io::Stderr;
-use text::count::one_more;
+use text::find::feed;
 
-// There are fewer steps than this in any listing, so that it is no bound.
-const NO_BUDGET: u32 = u32::MAX;
-
-// What was found so far: whether there is no fault; whether this page, behind the listing, says what is expected; its lines; the steps and the .show lines of the
-// listing; whether this page sets the start; the budget; the lines to compare, and whether an answer is among them.
+// A page's name and its text.
 #[derive(Clone, Copy)]
-pub struct Found {
-    pub good: bool,
-    expected: bool,
-    lines: u32,
-    pub steps: usize,
-    pub shows: usize,
-    pub starts: bool,
-    pub budget: u32,
-    pub compared: u32,
-    pub answers: bool,
+pub struct Page<'a> {
+    pub name: &'a [u8],
+    pub text: &'a [u8],
 }
 
-// What a line came to.
+// The rooms of a page: for its name, and for its text, with one byte more than it may have.
+#[derive(Drop)]
+pub struct Rooms {
+    name: [u8; 65536],
+    text: [u8; 65536],
+}
+
+// What is put down of a page.
+pub trait Contents {
+    // A line that has a text.
+    fn take(&mut self, line: &[u8]) -> Result<(), Fault>;
+
+    // Whether there is what a page is for.
+    fn ended(&self) -> Result<(), Wrong>;
+}
+
+// What the dot lines of a page set that sets the start: everything, and so no budget is left of the page before.
 #[derive(Clone, Copy)]
-pub enum Taken {
-    Good(Found),
-    Wrong(Fault),
+pub struct Start {
+    pub budget: Option<u32>,
 }
 
-// Before the listing.
-pub fn nothing() -> Found {
-    Found {
-        good: true,
-        expected: false,
-        lines: 0,
-        steps: 0,
-        shows: 0,
-        starts: false,
-        budget: NO_BUDGET,
-        compared: 0,
-        answers: false,
-    }
+// With one more line that sets the start.
+pub fn started(start: Option<Start>, o: Order<'_>) -> Option<Start> {
+    let budget = match o {
+        Order::Budget(n) => Some(n),
+        _ => start.and_then(|s| s.budget),
+    };
+    Some(Start { budget })
 }
 
-// Before the page of what is expected.
-pub fn between(f: Found) -> Found {
-    let mut after = f;
-    after.expected = true;
-    after.lines = 0;
-    after.starts = false;
-    after
-}
-
-// With a line that sets the start. The first one of a page sets aside what the page before has set, its budget too.
-pub fn started(f: Found, o: Order) -> Found {
-    let mut after = f;
-    if !f.starts {
-        after.budget = NO_BUDGET;
-    }
-    after.starts = true;
-    if let Order::Budget(n) = o {
-        after.budget = n;
-    }
-    after
-}
-
-fn told(err: Stderr, t: Taken, f: Found, who: &[u8], file: &[u8], line: &[u8]) -> Found {
-    match t {
-        Taken::Good(after) => after,
-        Taken::Wrong(fault) => {
-            tell::line(err, who, file, f.lines, line, fault);
-            let mut after = f;
-            after.good = false;
-            after
+// Looks at the text of a page.
+fn look<C: Contents>(text: &[u8], contents: &mut C) -> Result<(), Wrong> {
+    let mut room = [0; 65536];
+    for (i, raw) in text.split(|&b| feed(b)).enumerate() {
+        let line = clean(raw, &mut room);
+        if !line.is_empty() {
+            contents.take(line).map_err(|f| Wrong::Line(i, f))?;
         }
     }
+    contents.ended()
 }
 
-fn take(f: Found, line: &[u8], words: &mut [u32; 3072]) -> Taken {
-    if f.expected {
-        return expected::take(f, line);
-    }
-    listing::take(f, line, words)
+// The page that argument i names, without a fault. `who` is the command's word.
+pub fn open<'a, C: Contents>(
+    rt: HostRuntime,
+    who: &str,
+    i: usize,
+    rooms: &'a mut Rooms,
+    contents: &mut C,
+) -> Result<Page<'a>, Told> {
+    let err = rt.stderr();
+    let name = source::name(rt, i, &mut rooms.name);
+    let text = source::read(rt, name, &mut rooms.text)
+        .map_err(|wrong| tell::page(err, who, name, &[], wrong))?;
+    look(text, contents).map_err(|wrong| tell::page(err, who, name, text, wrong))?;
+    Ok(Page { name, text })
 }
 
-fn next(
-    err: Stderr,
-    f: Found,
-    who: &[u8],
-    file: &[u8],
-    line: &[u8],
-    words: &mut [u32; 3072],
-) -> Found {
-    let mut here = f;
-    here.lines = one_more(f.lines);
-    if line.len() == 0 {
-        return here;
-    }
-    let t = take(here, line, words);
-    told(err, t, here, who, file, line)
-}
-
-fn empty(err: Stderr, f: Found, who: &[u8], file: &[u8], message: &[u8]) -> Found {
-    tell::file(err, who, file, message);
-    let mut after = f;
-    after.good = false;
-    after
-}
-
-// Tells where a page has nothing that it is for.
-fn ended(err: Stderr, f: Found, who: &[u8], file: &[u8]) -> Found {
-    if f.expected {
-        if f.compared > 0 {
-            return f;
+impl Rooms {
+    pub fn new() -> Rooms {
+        Rooms {
+            name: [0; 65536],
+            text: [0; 65536],
         }
-        return empty(err, f, who, file, b"expected a line to compare");
     }
-    if f.steps > 0 || f.shows > 0 || f.starts {
-        return f;
-    }
-    empty(err, f, who, file, b"expected a step or a dot line")
-}
-
-// Looks at the text of a page. The steps go to words, three for each.
-pub fn read(
-    err: Stderr,
-    before: Found,
-    who: &[u8],
-    file: &[u8],
-    text: &[u8],
-    words: &mut [u32; 3072],
-) -> Found {
-    let mut room = [0u8; 65536];
-    let mut f = before;
-    let mut at = 0;
-    while at < text.len() {
-        let l = lines::line(text, at, &mut room);
-        let n = l.length;
-        f = next(err, f, who, file, &room[..n], words);
-        if !f.good {
-            return f;
-        }
-        at = l.next;
-    }
-    ended(err, f, who, file)
 }

@@ -1,57 +1,30 @@
-// What is written of a listing that is run: what its steps did, and what they left.
+// The command `run`: what is written of each listing, what its steps did, and what they left.
 use crate::asked::Options;
-use crate::pages::Found;
-use crate::steps::Total;
-use crate::{lines, start, steps};
+use crate::lines::clean;
+use crate::listing::Listing;
+use crate::pages::{Page, Rooms};
+use crate::steps::Run;
+use crate::tell::Told;
+use crate::{pages, start};
 use orders::Order;
+use orders::read::order;
 use shown::cells::print_banks;
 use shown::registers::registers;
+use shown::state::State;
 use shown::subjects::subject;
 use shown::total;
 use std::io::Stdout;
+use text::args;
+use text::find::feed;
 use text::print::text;
 
-// What the last part says of the run itself.
-fn print_total(out: Stdout, total: Total, banks: &[u32; 16]) {
-    total::lines(out, total.answer, total.steps, total.counts);
-    print_banks(out, banks);
-}
-
-// What a line asks to be shown, if it does.
-fn show(
-    out: Stdout,
-    line: &[u8],
-    ds: &[u8],
-    a: &[u32],
-    r: &[u32],
-    c: &[u32],
-    vc: &[u32],
-    v: &[u8],
-) {
-    let o = orders::read::order(line);
-    if let Order::Show(s) = o {
-        subject(out, s, ds, a, r, c, vc, v);
-    }
-}
-
 // What the .show lines of a listing ask for. It is gone over again, so that they need not be put down.
-fn shows(
-    out: Stdout,
-    text: &[u8],
-    ds: &[u8],
-    a: &[u32],
-    r: &[u32],
-    c: &[u32],
-    vc: &[u32],
-    v: &[u8],
-) {
-    let mut room = [0u8; 65536];
-    let mut at = 0;
-    while at < text.len() {
-        let l = lines::line(text, at, &mut room);
-        let n = l.length;
-        show(out, &room[..n], ds, a, r, c, vc, v);
-        at = l.next;
+fn shows(out: Stdout, text: &[u8], state: &State) {
+    let mut room = [0; 65536];
+    for raw in text.split(|&b| feed(b)) {
+        if let Ok(Some(Order::Show(s))) = order(clean(raw, &mut room)) {
+            subject(out, s, state);
+        }
     }
 }
 
@@ -64,32 +37,37 @@ fn heading(out: Stdout, many: bool, file: &[u8]) {
     }
 }
 
-// A listing without a fault, from a state of zeros: its steps, and the last part.
-pub fn run(
-    out: Stdout,
-    o: Options,
-    many: bool,
-    f: Found,
-    file: &[u8],
-    source: &[u8],
-    words: &[u32; 3072],
-    ds: &mut [u8; 8192],
-    a: &mut [u32; 32],
-    r: &mut [u32; 32],
-    c: &mut [u32; 4],
-    vc: &mut [u32; 4],
-    v: &mut [u8; 512],
-) -> u32 {
-    heading(out, many, file);
-    start::set(source, ds, a, r, c, vc, v);
-    let loud = !o.quiet;
-    let mut banks = [0u32; 16];
-    let total = steps::run(out, f, loud, words, &mut banks, ds, a, r, c, vc, v);
-    if loud {
+// The last part.
+fn print_left(out: Stdout, all: bool, page: Page<'_>, run: &Run) {
+    registers(out, all, &run.state);
+    shows(out, page.text, &run.state);
+    total::lines(out, run.end, run.steps, run.counts);
+    print_banks(out, &run.banks);
+}
+
+// The listing that argument i names: its steps, the last part, and the status.
+fn one(rt: HostRuntime, o: Options, many: bool, i: usize) -> Result<u32, Told> {
+    let out = rt.stdout();
+    let mut rooms = Rooms::new();
+    let mut listing = Listing::new();
+    let page = pages::open(rt, "run", i, &mut rooms, &mut listing)?;
+    heading(out, many, page.name);
+    let mut run = Run::from_state(start::set(page.text));
+    run.run(out, !o.quiet, listing.steps(), listing.start);
+    if !o.quiet {
         text(out, b"\n");
     }
-    registers(out, o.all, a, r, c, vc, v);
-    shows(out, source, ds, a, r, c, vc, v);
-    print_total(out, total, &banks);
-    total::status(total.answer)
+    print_left(out, o.all, page, &run);
+    Ok(total::status(run.end))
+}
+
+// The listings that the arguments name from one on, each by itself, and the greatest status.
+pub fn all(rt: HostRuntime, o: Options, first: usize) -> u32 {
+    let end = args::count(rt);
+    let many = first.wrapping_add(1) < end;
+    let mut status = 0;
+    for i in first..end {
+        status = one(rt, o, many, i).unwrap_or(Told::STATUS).max(status);
+    }
+    status
 }

@@ -1,29 +1,20 @@
 // A file of the arguments, or standard input, read whole.
+ghost use Rattle.std.specs.Prelude.{IfOk};
 ghost use Rattle.text.specs.Counts.{IsPrefixLen};
 
-use crate::tell;
+use crate::tell::Wrong;
 use std::fs::File;
-use std::io::Stderr;
+use std::io;
 use text::args;
-use text::find::same;
-use text::input::{Filled, fill};
+use text::input::fill;
 
 // The most bytes that a file may have.
 const MOST: usize = 65535;
 
-// Whether the file could be read and is not too long, the length of its name, and its own.
-#[derive(Clone, Copy)]
-pub struct Source {
-    pub good: bool,
-    pub name: usize,
-    pub length: usize,
-}
-
-// Puts the argument at the start of name and answers its length. Of one that is too long for any file its first bytes are enough.
-fn name_of(rt: HostRuntime, i: usize, name: &mut [u8]) -> usize
-    ensures { IsPrefixLen result name.new }
-{
-    args::beginning(rt, i, name)
+// Puts the name that argument i is at the start of room, and answers it. Of one that is too long for any file its first bytes are enough.
+pub fn name<'a>(rt: HostRuntime, i: usize, room: &'a mut [u8]) -> &'a [u8] {
+    let n = args::beginning(rt, i, room);
+    &room[..n]
 }
 
 // std opens a file by a name in UTF-8 alone: one of any other name counts as one that cannot be opened.
@@ -32,45 +23,26 @@ fn open(rt: HostRuntime, name: &[u8]) -> Option<File> {
     File::open(&rt, path).ok()
 }
 
-// Puts the bytes of the file of a name, or of standard input, at the start of text: as many as there is room for.
-fn filled(rt: HostRuntime, name: &[u8], text: &mut [u8]) -> Filled
-    ensures { IsPrefixLen result.length text.new }
+// Puts the bytes of the file of a name, or of standard input, at the start of room: as many as there is room for.
+fn filled(rt: HostRuntime, name: &[u8], room: &mut [u8]) -> Result<usize, Wrong>
+    ensures { IfOk result (λ n. IsPrefixLen n room.new) }
 {
-    if same(name, b"-") {
-        return fill(&mut rt.stdin(), text);
-    }
-    match open(rt, name) {
-        Some(mut file) => fill(&mut file, text),
-        None => Filled {
-            length: 0,
-            failed: true,
-        },
-    }
+    let got = if name == b"-" {
+        fill(&mut rt.stdin(), room)
+    } else {
+        let Some(mut file) = open(rt, name) else {
+            return Err(Wrong::Unreadable);
+        };
+        fill(&mut file, room)
+    };
+    got.map_err(|_| Wrong::Unreadable)
 }
 
-fn told(err: Stderr, who: &[u8], name: &[u8], failed: bool, length: usize) -> bool {
-    if failed {
-        tell::file(err, who, name, b"cannot be read");
-        return true;
+// The bytes of the file of a name, or of standard input, put into room, which has one byte more than a file may have.
+pub fn read<'a>(rt: HostRuntime, name: &[u8], room: &'a mut [u8]) -> Result<&'a [u8], Wrong> {
+    let n = filled(rt, name, room)?;
+    if n > MOST {
+        return Err(Wrong::TooLong);
     }
-    if length > MOST {
-        tell::file(err, who, name, b"longer than 65535 bytes");
-        return true;
-    }
-    false
-}
-
-// Puts the name that argument i is at the start of name, and the file's bytes at the start of text: as many as there is room for, and where these are more
-// than may be, that is told.
-pub fn read(rt: HostRuntime, who: &[u8], i: usize, name: &mut [u8], text: &mut [u8]) -> Source
-    ensures { IsPrefixLen result.name name.new × IsPrefixLen result.length text.new }
-{
-    let n = name_of(rt, i, name);
-    let got = filled(rt, &name[..n], text);
-    let good = !told(rt.stderr(), who, &name[..n], got.failed, got.length);
-    Source {
-        good,
-        name: n,
-        length: got.length,
-    }
+    Ok(&room[..n])
 }

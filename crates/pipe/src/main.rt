@@ -3,33 +3,27 @@
 
 mod asked;
 mod feed;
+mod tell;
 
+use crate::tell::Wrong;
 use shown::total;
-use text::digits::Number;
 use text::say;
 
-// Runs what standard input brings under a budget, on a machine of zeros, and answers the status.
-fn run(rt: HostRuntime, budget: u32) -> u32 {
-    let fed = feed::all(rt.stdin(), parts::begin(budget));
-    if fed.failed {
-        say::say(rt.stderr(), b"pipe: -: cannot be read\n");
-        return 2;
-    }
-    let run = parts::end(fed.run);
-    let end = run.end;
-    let answer = terms::number(end);
-    total::lines(rt.stdout(), answer, run.steps, run.counts);
-    total::status(answer)
+// Runs what standard input brings under the budget that is given, on a machine of zeros, and answers the status.
+fn run(rt: HostRuntime, behind: bool) -> Result<u32, Wrong> {
+    let first = parts::begin(asked::budget(rt, behind)?);
+    let fed = feed::all(rt.stdin(), first).map_err(|_| Wrong::Unreadable)?;
+    let run = parts::end(fed);
+    total::lines(rt.stdout(), run.end, run.steps, run.counts);
+    Ok(total::status(run.end))
 }
 
 fn main(rt: HostRuntime) {
     let tell = asked::tell(rt);
-    let budget = asked::budget(rt, tell);
-    let status = if let Number::Is(n) = budget {
-        run(rt, n)
-    } else {
-        2
-    };
+    let status = run(rt, tell).unwrap_or_else(|wrong| {
+        tell::tell(rt, wrong);
+        Wrong::STATUS
+    });
     if tell {
         say::status(rt, status);
     }

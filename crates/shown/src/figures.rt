@@ -1,6 +1,6 @@
-// Numbers and bytes as they are shown.
+// Numbers and bytes as they are shown. A write that fails is let go, as in text::print.
 use std::io::Stdout;
-use text::print::{decimal, hex, text};
+use text::print::{hex, text};
 
 // `0x` and at least so many digits.
 pub fn prefixed(out: Stdout, n: u64, digits: usize) {
@@ -8,68 +8,42 @@ pub fn prefixed(out: Stdout, n: u64, digits: usize) {
     hex(out, n, digits);
 }
 
-// A name and a number behind it.
-pub fn numbered(out: Stdout, name: &[u8], n: u64) {
-    text(out, name);
-    decimal(out, n);
-}
-
-// The same as a line: `steps 3`, where the name is `steps `.
-pub fn line(out: Stdout, name: &[u8], n: u64) {
-    numbered(out, name, n);
-    text(out, b"\n");
+// A name and a number, as a line: `steps 3`.
+pub fn line(out: Stdout, name: &str, n: u64) {
+    let _ = println!(out; "{name} {n}");
 }
 
 // The stride of a code from 0 to 3.
-pub fn stride(out: Stdout, code: usize) {
+pub fn stride(code: usize) -> &'static str {
     match code {
-        0 => text(out, b"0x10"),
-        1 => text(out, b"0x20"),
-        2 => text(out, b"0x40"),
-        _ => text(out, b"0x80"),
+        0 => "0x10",
+        1 => "0x20",
+        2 => "0x40",
+        _ => "0x80",
     }
 }
 
-// An access of the store by its first address: `row 0x0050 stride 0x20 `, where the name is `row `.
-pub fn access(out: Stdout, name: &[u8], address: usize, code: usize) {
-    text(out, name);
-    prefixed(out, address as u64, 4);
-    text(out, b" stride ");
-    stride(out, code);
-    text(out, b" ");
-}
-
-// Whether all bytes are this one.
-pub fn all_are(b: &[u8], x: u8) -> bool {
-    for i in 0..b.len() {
-        if b[i] != x {
-            return false;
-        }
-    }
-    true
-}
-
-fn byte(out: Stdout, b: u8) {
-    hex(out, b as u64, 2);
+// An access of the store by its first address: `row 0x0050 stride 0x20 `.
+pub fn access(out: Stdout, name: &str, address: usize, code: usize) {
+    let _ = print!(out; "{name} 0x{address:04x} stride {} ", stride(code));
 }
 
 fn each(out: Stdout, b: &[u8]) {
-    for i in 0..b.len() {
-        if i != 0 {
-            text(out, b" ");
-        }
-        byte(out, b[i]);
+    let mut space = "";
+    for x in b {
+        let _ = print!(out; "{space}{x:02x}");
+        space = " ";
     }
 }
 
 // Two digits each, with one space between; `all` and the byte where sixteen are all the same.
 pub fn bytes(out: Stdout, b: &[u8]) {
-    if b.len() == 16 && all_are(b, b[0]) {
-        text(out, b"all ");
-        byte(out, b[0]);
-        return;
+    match b {
+        [first, rest @ ..] if rest.len() == 15 && rest.iter().all(|x| x == first) => {
+            let _ = print!(out; "all {first:02x}");
+        }
+        _ => each(out, b),
     }
-    each(out, b);
 }
 
 // `OLD -> NEW` and a line feed.

@@ -9,5 +9,6 @@ pub mod parts; // parts.rt: the parts of registers
 pub mod phrases; // phrases.rt: places, refusals, answers and steps in words
 pub mod places; // places.rt: what a place's number stands for
 pub mod registers; // registers.rt: registers, as the last part shows them
+pub mod state; // state.rt: a state of the two units
 pub mod subjects; // subjects.rt: what .show lines ask for
 pub mod total; // total.rt: how a run ended

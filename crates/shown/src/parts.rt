@@ -3,36 +3,36 @@ use crate::figures::{prefixed, stride};
 use orders::Field;
 use orders::fields::bits;
 use std::io::Stdout;
-use text::print::{decimal, text};
+use text::print::text;
 
-fn name(out: Stdout, part: Field) {
+// The name, with the space before it; Whole has none.
+fn name(part: Field) -> &'static str {
     match part {
-        Field::Addr => text(out, b" addr"),
-        Field::Limit => text(out, b" limit"),
-        Field::Stride => text(out, b" stride"),
-        Field::Sign => text(out, b" sign"),
-        Field::Zero => text(out, b" zero"),
-        Field::End => text(out, b" end"),
-        Field::Signs => text(out, b" signs"),
-        Field::Zeros => text(out, b" zeros"),
-        Field::Whole => {}
+        Field::Addr => " addr",
+        Field::Limit => " limit",
+        Field::Stride => " stride",
+        Field::Sign => " sign",
+        Field::Zero => " zero",
+        Field::End => " end",
+        Field::Signs => " signs",
+        Field::Zeros => " zeros",
+        Field::Whole => "",
     }
 }
 
 fn value(out: Stdout, part: Field, word: u32) {
     let n = bits(part, word);
-    text(out, b" ");
-    match part {
-        Field::Stride => stride(out, n as usize),
-        Field::Sign | Field::Zero | Field::End => decimal(out, n as u64),
-        Field::Whole => prefixed(out, n as u64, 8),
-        _ => prefixed(out, n as u64, 4),
-    }
+    let _ = match part {
+        Field::Stride => print!(out; " {}", stride(n as usize)),
+        Field::Sign | Field::Zero | Field::End => print!(out; " {n}"),
+        Field::Whole => print!(out; " 0x{n:08x}"),
+        _ => print!(out; " 0x{n:04x}"),
+    };
 }
 
 // The part of a word, by its name if it has one: ` addr 0x0040`.
 pub fn show(out: Stdout, part: Field, word: u32) {
-    name(out, part);
+    let _ = print!(out; "{}", name(part));
     value(out, part, word);
 }
 

@@ -1,88 +1,89 @@
 // Places, refusals, answers and steps in words.
-use crate::figures::{numbered, prefixed};
 use crate::places::{Place, place_of};
 use crate::registers::named;
 use orders::word::spell;
 use orders::{Kind, Triple};
 use std::io::Stdout;
-use text::print::{decimal, hex, text};
-
-fn one_of(out: Stdout, high: bool, first: &[u8], second: &[u8]) {
-    if high {
-        text(out, second);
-    } else {
-        text(out, first);
-    }
-}
+use terms::{End, Half, Refusal};
+use text::print::text;
 
 // $r has no halves.
-fn half(out: Stdout, kind: Kind, n: usize, high: bool) {
-    named(out, kind, n);
-    match kind {
-        Kind::A => one_of(out, high, b" low", b" high"),
-        Kind::R => {}
-        Kind::C => one_of(out, high, b" sign and zero", b" end"),
-        Kind::Vc => one_of(out, high, b" signs", b" zeros"),
+fn half(kind: Kind, half: Half) -> &'static str {
+    match (kind, half) {
+        (Kind::A, Half::Low) => " low",
+        (Kind::A, Half::High) => " high",
+        (Kind::R, _) => "",
+        (Kind::C, Half::Low) => " sign and zero",
+        (Kind::C, Half::High) => " end",
+        (Kind::Vc, Half::Low) => " signs",
+        (Kind::Vc, Half::High) => " zeros",
     }
 }
 
-// A byte of the store by its index: its bank behind the name, its cell, and which half of that it is.
-pub fn store_byte(out: Stdout, name: &[u8], index: u32, low: &[u8], high: &[u8]) {
-    numbered(out, name, index as u64 / 512);
-    numbered(out, b" cell ", index as u64 % 512 / 2);
-    one_of(out, index % 2 == 1, low, high);
+// The half of a cell that a byte of the store is, by its index.
+fn half_of(index: usize) -> &'static str {
+    if index % 2 == 0 { "low" } else { "high" }
+}
+
+// A byte of the store by its index: ` bank 3 cell 128 low`.
+pub fn store_byte(out: Stdout, index: usize) {
+    let _ = print!(out; " bank {} cell {} {}", index / 512, index % 512 / 2, half_of(index));
 }
 
 // A place by its number.
 pub fn place(out: Stdout, number: u32) {
     match place_of(number) {
-        Place::Half(kind, n, high) => half(out, kind, n, high),
-        Place::Vector(n) => numbered(out, b"$v", n as u64),
-        Place::Byte(i) => store_byte(out, b"store bank ", i, b" low byte", b" high byte"),
-        Place::Nowhere => {}
+        Some(Place::Half(kind, n, which)) => {
+            named(out, kind, n);
+            let _ = print!(out; "{}", half(kind, which));
+        }
+        Some(Place::Vector(n)) => {
+            let _ = print!(out; "$v{n}");
+        }
+        Some(Place::Byte(i)) => {
+            text(out, b"store");
+            store_byte(out, i);
+            text(out, b" byte");
+        }
+        None => {}
     }
 }
 
-// Of a run no other answers come; 6 only of a list in parts.
-fn reason(out: Stdout, n: u32) {
-    match n {
-        0 => text(out, b"done"),
-        1 => text(out, b"opcode below 0x80 or above 0xdf"),
-        2 => text(out, b"opcode not documented"),
-        3 => text(out, b"side index above 31"),
-        4 => text(out, b"side mask word above 0x1ffff"),
-        6 => text(out, b"bytes left over that make no whole triple"),
-        7 => text(out, b"budget spent, the list is not finished"),
-        _ => text(out, b"another reason"),
+// Of a run no other answers come; Ragged only of a list in parts.
+fn reason(end: End) -> &'static str {
+    match end {
+        End::Done => "done",
+        End::Refused(Refusal::Foreign) => "opcode below 0x80 or above 0xdf",
+        End::Refused(Refusal::Undocumented) => "opcode not documented",
+        End::Refused(Refusal::SideIndex) => "side index above 31",
+        End::Refused(Refusal::SideMask) => "side mask word above 0x1ffff",
+        End::Ragged => "bytes left over that make no whole triple",
+        End::Spent => "budget spent, the list is not finished",
+        _ => "another reason",
     }
 }
 
-pub fn refused(out: Stdout, n: u32) {
-    numbered(out, b"refused, ", n as u64);
-    text(out, b" (");
-    reason(out, n);
-    text(out, b")");
+pub fn refused(out: Stdout, end: End) {
+    let _ = print!(out; "refused, {} ({})", u32::from(end), reason(end));
 }
 
 // The line of the answer.
-pub fn answer(out: Stdout, n: u32) {
-    numbered(out, b"answer ", n as u64);
-    text(out, b" # ");
-    reason(out, n);
-    text(out, b"\n");
+pub fn answer(out: Stdout, end: End) {
+    let _ = println!(out; "answer {} # {}", u32::from(end), reason(end));
 }
 
 // The word's line, without its line feed; a word that has none in eight digits.
 fn name(out: Stdout, word: u32) {
-    let mut room = [0u8; 64];
-    let spelt = spell(word, &mut room);
-    let n = spelt.length;
-    if n == 0 {
-        hex(out, word as u64, 8);
-        return;
+    let mut room = [0; 64];
+    match spell(word, &mut room) {
+        Ok(n) => {
+            let line = &room[..n];
+            text(out, line.strip_suffix(b"\n").unwrap_or(line));
+        }
+        Err(_) => {
+            let _ = print!(out; "{word:08x}");
+        }
     }
-    let end = n - 1;
-    text(out, &room[0..end]);
 }
 
 // A step, with its side inputs where they are not those that a step without `@` has.
@@ -91,10 +92,8 @@ pub fn step_text(out: Stdout, t: Triple) {
     if t.mask == 0 && t.side == t.word / 512 % 32 {
         return;
     }
-    text(out, b" @ ");
-    decimal(out, t.side as u64);
+    let _ = print!(out; " @ {}", t.side);
     if t.mask != 0 {
-        text(out, b" ");
-        prefixed(out, t.mask as u64, 1);
+        let _ = print!(out; " {:#x}", t.mask);
     }
 }

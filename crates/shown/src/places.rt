@@ -1,46 +1,45 @@
 // What a place's number stands for: docs/PLACES.md has the numbers.
-use orders::Kind;
+ghost use Rattle.std.specs.Prelude.{◌<◌, IfSome};
 
-// Half of a register, and whether it is the high one; of $r it is the whole. A vector. A byte of the store, by its index.
+use orders::Kind;
+use terms::Half;
+
+// Half of a register; of $r, which has no halves, the low one stands for the whole. A vector. A byte of the store, by its index.
 #[derive(Clone, Copy)]
 pub enum Place {
-    Half(Kind, usize, bool),
+    Half(Kind, usize, Half),
     Vector(usize),
-    Byte(u32),
-    Nowhere,
+    Byte(usize),
 }
-
-// A number that is no place.
-pub const NOWHERE: u32 = 8336;
 
 // The half n of a kind's registers.
-fn half(kind: Kind, n: u32) -> Place {
-    Place::Half(kind, n as usize / 2, n % 2 == 1)
+fn half(kind: Kind, n: usize) -> Place {
+    let half = if n % 2 == 0 { Half::Low } else { Half::High };
+    Place::Half(kind, n / 2, half)
 }
 
-pub fn place_of(number: u32) -> Place {
-    match number {
-        0..=63 => half(Kind::A, number),
-        64..=95 => Place::Half(Kind::R, number as usize - 64, false),
-        96..=127 => Place::Vector(number as usize - 96),
-        128..=135 => half(Kind::C, number - 128),
-        136..=143 => half(Kind::Vc, number - 136),
-        144..=8335 => Place::Byte(number - 144),
-        _ => Place::Nowhere,
+// The place of a number, if it is one.
+pub fn place_of(number: u32) -> Option<Place> {
+    let n = number as usize;
+    match n {
+        0..=63 => Some(half(Kind::A, n)),
+        64..=95 => Some(Place::Half(Kind::R, n - 64, Half::Low)),
+        96..=127 => Some(Place::Vector(n - 96)),
+        128..=135 => Some(half(Kind::C, n - 128)),
+        136..=143 => Some(half(Kind::Vc, n - 136)),
+        144..=8335 => Some(Place::Byte(n - 144)),
+        _ => None,
+    }
+}
+
+// The index of a byte of the store, if the number's place is one.
+pub fn byte_of(number: u32) -> Option<usize> {
+    match place_of(number) {
+        Some(Place::Byte(i)) => Some(i),
+        _ => None,
     }
 }
 
 pub fn in_store(number: u32) -> bool {
-    match place_of(number) {
-        Place::Byte(_) => true,
-        _ => false,
-    }
-}
-
-// The index of a byte of the store.
-pub fn index_of(number: u32) -> u32 {
-    match place_of(number) {
-        Place::Byte(i) => i,
-        _ => 0,
-    }
+    byte_of(number).is_some()
 }

@@ -1,6 +1,0 @@
--- `desk::start::set` is safe and ends.
-use Rattle.std.proofs.Common.{◌-◌, length}
-use Rattle.desk.proofs.start.set.Given as goal
-
-abbrev pub decreases-loop-at : goal.decreases-loop-at
-decreases-loop-at l = length l.text - l.at
