@@ -31,7 +31,7 @@ pub struct Asked {
     pub task: Option<Task>,
 }
 
-fn command(rt: HostRuntime) -> Option<Command> {
+fn first_word(rt: HostRuntime) -> Option<Command> {
     let mut word = [0; 8];
     let n = args::whole(rt, 1, &mut word);
     match &word[..n] {
@@ -53,7 +53,7 @@ fn with(o: Options, word: &[u8], run: bool) -> Option<Options> {
 }
 
 // The options, and the number of the first argument behind them.
-fn options(rt: HostRuntime, run: bool) -> (Options, usize) {
+fn options_of(rt: HostRuntime, run: bool) -> (Options, usize) {
     let mut o = Options {
         tell: false,
         quiet: false,
@@ -77,7 +77,7 @@ fn dashed(rt: HostRuntime, i: usize) -> bool {
     args::beginning(rt, i, &mut word) == 2 && word == *b"--"
 }
 
-fn task(rt: HostRuntime, command: Command, o: Options, first: usize) -> Option<Task> {
+fn task_of(rt: HostRuntime, command: Command, o: Options, first: usize) -> Option<Task> {
     let left = args::count(rt).saturating_sub(first);
     // There are fewer arguments than numbers.
     let behind = first.wrapping_add(1);
@@ -91,10 +91,10 @@ fn task(rt: HostRuntime, command: Command, o: Options, first: usize) -> Option<T
 }
 
 pub fn read(rt: HostRuntime) -> Asked {
-    let command = command(rt);
-    let (o, first) = options(rt, command == Some(Command::Run));
+    let command = first_word(rt);
+    let (o, first) = options_of(rt, command == Some(Command::Run));
     Asked {
         tell: o.tell,
-        task: command.and_then(|c| task(rt, c, o, first)),
+        task: command.and_then(|c| task_of(rt, c, o, first)),
     }
 }

@@ -40,7 +40,7 @@ impl Places {
 }
 
 // The places of a step in a state, none of one that is refused.
-pub fn places(s: &State, t: Triple) -> Places {
+pub fn places_of(s: &State, t: Triple) -> Places {
     let mut all = [0; 22];
     let listed = swap::places(
         t.word, t.side, t.mask, &s.ds, &s.a, &s.r, &s.c, &s.vc, &s.v, &mut all,

@@ -2,7 +2,6 @@
 use crate::compare::Tally;
 use crate::expected::Wishes;
 use crate::listing::Listing;
-use crate::pages::Rooms;
 use crate::steps::Run;
 use crate::tell::Told;
 use crate::{compare, pages, start};
@@ -25,12 +24,14 @@ fn verdict(out: Stdout, file: &[u8], t: Tally) -> u32 {
 // The listing that argument i names against the file that argument j names. Where this sets the start, the listing does not.
 pub fn check(rt: HostRuntime, i: usize, j: usize) -> Result<u32, Told> {
     let out = rt.stdout();
-    let mut rooms = Rooms::new();
+    let mut name = [0; 65536];
+    let mut text_room = [0; 65536];
     let mut listing = Listing::new();
-    let page = pages::open(rt, "check", i, &mut rooms, &mut listing)?;
-    let mut more_rooms = Rooms::new();
+    let page = pages::open(rt, "check", i, &mut name, &mut text_room, &mut listing)?;
+    let mut other_name = [0; 65536];
+    let mut other_room = [0; 65536];
     let mut wishes = Wishes::new();
-    let wanted = pages::open(rt, "check", j, &mut more_rooms, &mut wishes)?;
+    let wanted = pages::open(rt, "check", j, &mut other_name, &mut other_room, &mut wishes)?;
     let sets = if wishes.start.is_some() {
         wanted.text
     } else {

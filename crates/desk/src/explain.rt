@@ -77,7 +77,7 @@ fn touched(out: Stdout, t: Triple, base: u32, register: Option<usize>) {
     if let Some(n) = register {
         state.set_word(Kind::A, n, base);
     }
-    let places = calls::places(&state, t);
+    let places = calls::places_of(&state, t);
     place_line(out, "reads", places.read());
     place_line(out, "writes", places.written());
     line(out, "cells", calls::step(&mut state, t).counts.accesses);
@@ -91,7 +91,7 @@ fn touched(out: Stdout, t: Triple, base: u32, register: Option<usize>) {
 pub fn explain(out: Stdout, t: Triple, base: u32) -> u32 {
     phrases::step_text(out, t);
     let _ = println!(out; "\nword 0x{:08x}", t.word);
-    let places = calls::places(&State::zeros(), t);
+    let places = calls::places_of(&State::zeros(), t);
     if !matches!(places.end, End::Refused(Refusal::Foreign | Refusal::Undocumented)) {
         meaning(out, t.word);
     }

@@ -12,13 +12,6 @@ pub struct Page<'a> {
     pub text: &'a [u8],
 }
 
-// The rooms of a page: for its name, and for its text, with one byte more than it may have.
-#[derive(Drop)]
-pub struct Rooms {
-    name: [u8; 65536],
-    text: [u8; 65536],
-}
-
 // What is put down of a page.
 pub trait Contents {
     // A line that has a text.
@@ -55,27 +48,19 @@ fn look<C: Contents>(text: &[u8], contents: &mut C) -> Result<(), Wrong> {
     contents.ended()
 }
 
-// The page that argument i names, without a fault. `who` is the command's word.
+// The page that argument i names, without a fault. Its name and its text are put into rooms. `who` is the command's word.
 pub fn open<'a, C: Contents>(
     rt: HostRuntime,
     who: &str,
     i: usize,
-    rooms: &'a mut Rooms,
+    name_room: &'a mut [u8],
+    text_room: &'a mut [u8],
     contents: &mut C,
 ) -> Result<Page<'a>, Told> {
     let err = rt.stderr();
-    let name = source::name(rt, i, &mut rooms.name);
-    let text = source::read(rt, name, &mut rooms.text)
+    let name = source::name(rt, i, name_room);
+    let text = source::read(rt, name, text_room)
         .map_err(|wrong| tell::page(err, who, name, &[], wrong))?;
     look(text, contents).map_err(|wrong| tell::page(err, who, name, text, wrong))?;
     Ok(Page { name, text })
-}
-
-impl Rooms {
-    pub fn new() -> Rooms {
-        Rooms {
-            name: [0; 65536],
-            text: [0; 65536],
-        }
-    }
 }

@@ -2,7 +2,7 @@
 use crate::asked::Options;
 use crate::lines::clean;
 use crate::listing::Listing;
-use crate::pages::{Page, Rooms};
+use crate::pages::Page;
 use crate::steps::Run;
 use crate::tell::Told;
 use crate::{pages, start};
@@ -48,9 +48,10 @@ fn print_left(out: Stdout, all: bool, page: Page<'_>, run: &Run) {
 // The listing that argument i names: its steps, the last part, and the status.
 fn one(rt: HostRuntime, o: Options, many: bool, i: usize) -> Result<u32, Told> {
     let out = rt.stdout();
-    let mut rooms = Rooms::new();
+    let mut name = [0; 65536];
+    let mut text_room = [0; 65536];
     let mut listing = Listing::new();
-    let page = pages::open(rt, "run", i, &mut rooms, &mut listing)?;
+    let page = pages::open(rt, "run", i, &mut name, &mut text_room, &mut listing)?;
     heading(out, many, page.name);
     let mut run = Run::from_state(start::set(page.text));
     run.run(out, !o.quiet, listing.steps(), listing.start);

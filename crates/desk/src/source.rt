@@ -27,7 +27,7 @@ fn open(rt: HostRuntime, name: &[u8]) -> Option<File> {
 fn filled(rt: HostRuntime, name: &[u8], room: &mut [u8]) -> Result<usize, Wrong>
     ensures { IfOk result (λ n. IsPrefixLen n room.new) }
 {
-    let got = if name == b"-" {
+    let got = if matches!(name, b"-") {
         fill(&mut rt.stdin(), room)
     } else {
         let Some(mut file) = open(rt, name) else {

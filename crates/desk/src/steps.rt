@@ -83,7 +83,7 @@ impl Run {
     // One step. The question about it and the next one, its places and what it will change are asked for in the state before it.
     fn step(&mut self, out: Stdout, loud: bool, t: Triple, next: Option<Triple>) {
         let swap = next.map(|next| calls::question(&self.state, t, next));
-        let places = calls::places(&self.state, t);
+        let places = calls::places_of(&self.state, t);
         cells::count(&mut self.banks, &places.all);
         let before = changes::note(&self.state, places.all[0], places.written());
         let x = calls::step(&mut self.state, t);

@@ -7,7 +7,7 @@ use text::number::number;
 pub fn tell(rt: HostRuntime) -> bool {
     let mut word = [0; 8];
     let n = args::whole(rt, 1, &mut word);
-    &word[..n] == b"--tell"
+    matches!(&word[..n], b"--tell")
 }
 
 // The number that argument i is. Of one that is too long for any number its first bytes are enough.
