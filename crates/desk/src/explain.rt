@@ -45,11 +45,13 @@ fn place_line(out: Stdout, name: &str, places: &[u32]) {
     if places.is_empty() {
         text(out, b" nothing");
     }
-    let mut comma = "";
-    for group in places.chunk_by(|&p, &q| in_store(p) && in_store(q)) {
-        let _ = print!(out; "{comma} ");
+    let groups = places.chunk_by(|&p, &q| in_store(p) && in_store(q));
+    for (i, group) in groups.enumerate() {
+        if i > 0 {
+            text(out, b",");
+        }
+        text(out, b" ");
         group_text(out, group);
-        comma = ",";
     }
     text(out, b"\n");
 }

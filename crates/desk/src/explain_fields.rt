@@ -37,14 +37,13 @@ fn field(out: Stdout, operand: u32, word: u32) {
     }
 }
 
-// The line of the fields. The operands are the digits of a number in base 32, the first one's lowest.
+// The line of the fields. The operands are the digits of a number in base 32, the first one's lowest; it has seven of them at most, and 0 is no operand.
 pub fn fields(out: Stdout, word: u32) {
     let opcode = word / 16777216;
     let _ = print!(out; "fields opcode 0x{opcode:02x}");
-    let mut operands = names::form_of(opcode);
-    while operands != 0 {
-        field(out, operands % 32, word);
-        operands = operands / 32;
+    let operands = names::form_of(opcode);
+    for i in 0..7u32 {
+        field(out, operands >> (5 * i) & 31, word);
     }
     text(out, b"\n");
 }
