@@ -8,7 +8,11 @@ use std::env::Env;
 use text::find::feed;
 
 // What argument i is, read as a line of a listing: only what stands before a line feed. What is wrong with it is told.
-fn read_as<T, F: Fn(&[u8]) -> Result<T, Fault>>(rt: HostRuntime, i: usize, read: F) -> Result<T, Told>
+fn read_as<T, F: Fn(&[u8]) -> Result<T, Fault>>(
+    rt: HostRuntime,
+    i: usize,
+    read: F,
+) -> Result<T, Told>
     requires { F.IsAlwaysCallable read }
 {
     let err = rt.stderr();

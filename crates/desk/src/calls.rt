@@ -15,7 +15,8 @@ pub fn step(s: &mut State, t: Triple) -> Stepped {
 // What may_swap says of a step and the next one.
 pub fn question(s: &State, t: Triple, next: Triple) -> Swap {
     swap::may_swap(
-        t.word, t.side, t.mask, next.word, next.side, next.mask, &s.ds, &s.a, &s.r, &s.c, &s.vc, &s.v,
+        t.word, t.side, t.mask, next.word, next.side, next.mask, &s.ds, &s.a, &s.r, &s.c, &s.vc,
+        &s.v,
     )
 }
 

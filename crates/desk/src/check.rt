@@ -31,7 +31,14 @@ pub fn check(rt: HostRuntime, i: usize, j: usize) -> Result<u32, Told> {
     let mut other_name = [0; 65536];
     let mut other_room = [0; 65536];
     let mut wishes = Wishes::new();
-    let wanted = pages::open(rt, "check", j, &mut other_name, &mut other_room, &mut wishes)?;
+    let wanted = pages::open(
+        rt,
+        "check",
+        j,
+        &mut other_name,
+        &mut other_room,
+        &mut wishes,
+    )?;
     let sets = if wishes.start.is_some() {
         wanted.text
     } else {

@@ -94,8 +94,9 @@ pub fn explain(out: Stdout, t: Triple, base: u32) -> u32 {
     phrases::step_text(out, t);
     let _ = println!(out; "\nword 0x{:08x}", t.word);
     let places = calls::places_of(&State::zeros(), t);
-    if !matches!(places.end, End::Refused(Refusal::Foreign | Refusal::Undocumented)) {
-        meaning(out, t.word);
+    match places.end {
+        End::Refused(Refusal::Foreign | Refusal::Undocumented) => {}
+        _ => meaning(out, t.word),
     }
     if places.end != End::Done {
         phrases::refused(out, places.end);

@@ -59,8 +59,9 @@ pub fn open<'a, C: Contents>(
 ) -> Result<Page<'a>, Told> {
     let err = rt.stderr();
     let name = source::name(rt, i, name_room);
-    let text = source::read(rt, name, text_room)
-        .map_err(|wrong| tell::page(err, who, name, &[], wrong))?;
-    look(text, contents).map_err(|wrong| tell::page(err, who, name, text, wrong))?;
-    Ok(Page { name, text })
+    let unread = Page { name, text: &[] };
+    let text = source::read(rt, name, text_room).map_err(|w| tell::page(err, who, unread, w))?;
+    let page = Page { name, text };
+    look(text, contents).map_err(|w| tell::page(err, who, page, w))?;
+    Ok(page)
 }

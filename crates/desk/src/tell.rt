@@ -1,5 +1,6 @@
 // The one line that is said of what is not as it should be.
 use crate::lines::clean;
+use crate::pages::Page;
 use orders::Fault;
 use std::io::Stderr;
 use text::find::feed;
@@ -39,17 +40,17 @@ fn line(err: Stderr, text: &[u8], i: usize, fault: Fault) {
     orders::tell::tell(err, clean(line, &mut room), fault);
 }
 
-// What is wrong with the page of a name and a text. `who` is the command's word.
-pub fn page(err: Stderr, who: &str, name: &[u8], text: &[u8], wrong: Wrong) -> Told {
+// What is wrong with a page. `who` is the command's word.
+pub fn page(err: Stderr, who: &str, page: Page<'_>, wrong: Wrong) -> Told {
     let _ = print!(err; "{who}: ");
-    say(err, name);
+    say(err, page.name);
     say(err, b": ");
     match wrong {
         Wrong::Unreadable => say(err, b"cannot be read\n"),
         Wrong::TooLong => say(err, b"longer than 65535 bytes\n"),
         Wrong::NoStep => say(err, b"expected a step or a dot line\n"),
         Wrong::NoneCompared => say(err, b"expected a line to compare\n"),
-        Wrong::Line(i, fault) => line(err, text, i, fault),
+        Wrong::Line(i, fault) => line(err, page.text, i, fault),
     }
     Told
 }

@@ -27,7 +27,12 @@ fn half_of(index: usize) -> &'static str {
 
 // A byte of the store by its index: ` bank 3 cell 128 low`.
 pub fn store_byte(out: Stdout, index: usize) {
-    let _ = print!(out; " bank {} cell {} {}", index / 512, index % 512 / 2, half_of(index));
+    let _ = print!(out;
+        " bank {} cell {} {}",
+        index / 512,
+        index % 512 / 2,
+        half_of(index)
+    );
 }
 
 // A place by its number.

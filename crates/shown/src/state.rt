@@ -87,7 +87,11 @@ impl State {
     pub fn vector(&self, n: usize) -> [u8; 16]
         ensures { n < 32 → result ≡ vreg_of self.now.v n }
     {
-        if n < 32 { pieces::vreg(&self.v, n) } else { [0; 16] }
+        if n < 32 {
+            pieces::vreg(&self.v, n)
+        } else {
+            [0; 16]
+        }
     }
 
     // The register n of $v holds these bytes, if there is one.
