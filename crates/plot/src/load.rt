@@ -14,6 +14,7 @@ fn right(stride: Stride) -> usize
     110 + 20 * stride.bytes()
 }
 
+// (No Display: the type is another crate's.)
 fn kind(way: Way) -> &'static str {
     match way {
         Way::Horizontal => "Horizontal",

@@ -1,4 +1,5 @@
-// What the pictures share: the start of a picture, numbers and squares at their places, the colours of banks. A write that fails is let go, and the program goes on.
+// What the pictures share: the start of a picture, numbers and squares at their places, the colours of banks.
+// A write that fails is let go, and the program goes on. (x and y stay two numbers: the formats name them, and a pair would be taken apart in each.)
 ghost use Rattle.std.specs.Prelude.{◌≤◌, ◌<◌};
 
 use std::fmt::Display;

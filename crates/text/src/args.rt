@@ -1,4 +1,4 @@
-// The arguments that a program was started with, as bytes: number 0 is its own name.
+// The arguments that a program was started with, as bytes: number 0 is its own name. There is no heap, so they are put in a room of the caller's, and the answer is a length.
 ghost use Rattle.text.specs.Counts.{IsPrefixLen};
 
 use std::env::{Env, FillError};

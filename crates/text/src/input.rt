@@ -9,6 +9,7 @@ use std::io::Read;
 pub fn fill<R: Read>(from: &mut R, room: &mut [u8]) -> io::Result<usize>
     ensures { IfOk result (λ n. IsPrefixLen n room.new) }
 {
+    // No index: each read brings as many bytes as it likes.
     let mut done = 0;
     while done < room.len() {
         let n = from.read(&mut room[done..])?;

@@ -9,7 +9,7 @@ fn may_part(done: &[u8]) -> bool {
     done.last().is_some_and(|&b| b != b' ')
 }
 
-// One byte more behind the first n, or none.
+// One byte more behind the first n, or none. (There is no heap: the room is the caller's, and how much of it is taken goes beside it.)
 fn put(out: &mut [u8], n: usize, b: u8) -> usize
     requires { n < length out.old }
     ensures { result ≤ n + 1 }
