@@ -1,8 +1,8 @@
-// Loads and stores of the data store, over a lent slice of 8,192 bytes, and the raw view of a bank.
+// Loads and stores of the data store, over a lent array of 8,192 bytes, and the raw view of a bank.
 #![tactic(auto)]
 
 ghost use Rattle.std.specs.Prelude.{◌≡◌, [], ◌∷◌, ◌+◌, ◌/◌, ◌%◌, ◌<◌, ◌≤◌, length, drop};
-ghost use Rattle.banks.specs.Bank.{at};
+ghost use Rattle.banks.specs.Bank.{at, bank_of};
 ghost use Rattle.banks.specs.Line.{addresses, start_of, stride_of};
 ghost use Rattle.banks.specs.Inner.Access.{places};
 ghost use Rattle.terms.specs.declared.Way.TheVariants.{Horizontal, Vertical, Scalar};
@@ -10,72 +10,49 @@ ghost use Rattle.store.specs.Inner.Steps.{upto, stepped, paired, in_bank};
 ghost use Rattle.store.specs.Inner.Loads.{loaded, stored, word_of, bytes_of};
 ghost use Rattle.store.specs.Store.{bank_view};
 
+use std::array;
 use terms::Way;
+
+// The line on which an access begins, and the bank. (A line is the sixteen bytes that lie at one place of their banks.)
+fn begin(way: Way, code: usize, addr: usize) -> (usize, usize)
+    requires { code < 4 }
+    ensures line { (result.0 ≡ start_of way code addr / 16) × (result.0 < 512) }
+    ensures bank { (result.1 ≡ bank_of code (start_of way code addr)) × (result.1 < 16) }
+{
+    let start = banks::start(way, code, addr);
+    (start / 16, banks::bank(code, start))
+}
 
 // ---- rows: a line's byte in each of the sixteen banks, from one bank on round
 
-// In the order of the banks, twice, so that a row lies in one piece wherever it begins.
-fn banked(ds: &[u8; 8192], line: usize, w: &mut [u8; 32])
-    requires { line < 512 }
-    ensures { w.new ≡ loaded ds.now (upto (in_bank line) 32) }
-{
-    for k in 0..16 {
-        let b = ds[512 * k + line];
-        w[k] = b;
-        w[16 + k] = b;
-    }
-}
-
-fn part(w: &[u8; 32], first: usize) -> [u8; 16]
-    requires { first ≤ 16 }
-    ensures { result ≡ loaded w.now (upto (λ i. first + i) 16) }
-{
-    let mut x = [0u8; 16];
-    for i in 0..16 {
-        x[i] = w[first + i];
-    }
-    x
-}
-
+// In the order of the banks, twice, so that the row lies in one piece wherever it begins. (Not by `from_fn`, which would take 24 instructions more.)
 pub fn load_row(ds: &[u8; 8192], code: usize, addr: usize) -> [u8; 16]
     requires { code < 4 }
     ensures { result ≡ loaded ds.now (places code (addresses Horizontal code addr)) }
 {
-    let start = banks::start(Way::Horizontal, code, addr);
-    let mut w = [0u8; 32];
-    banked(ds, start / 16, &mut w);
-    part(&w, banks::bank(code, start))
-}
-
-// The same of a row that is to be stored.
-fn doubled(x: [u8; 16], w: &mut [u8; 32])
-    ensures { w.new ≡ loaded x (upto (λ i. i % 16) 32) }
-{
-    for i in 0..16 {
-        let b = x[i];
-        w[i] = b;
-        w[16 + i] = b;
+    let (line, first) = begin(Way::Horizontal, code, addr);
+    let mut twice = [0; 32];
+    for k in 0..16 {
+        let byte = ds[512 * k + line];
+        twice[k] = byte;
+        twice[16 + k] = byte;
     }
+    array::from_fn(|i| twice[first + i])
 }
 
 // Bank by bank, which is not the row's order: each byte has its own bank, so the order does not matter.
-fn to_banks(ds: &mut [u8; 8192], line: usize, w: &[u8; 32], first: usize)
-    requires { (line < 512) × (first ≤ 16) }
-    ensures { ds.new ≡ stored ds.old (upto (in_bank line) 16) (drop first w.now) }
-{
-    for k in 0..16 {
-        ds[512 * k + line] = w[first + k];
-    }
-}
-
 pub fn store_row(ds: &mut [u8; 8192], code: usize, addr: usize, bytes: [u8; 16])
     requires { code < 4 }
     ensures { ds.new ≡ stored ds.old (places code (addresses Horizontal code addr)) bytes }
 {
-    let start = banks::start(Way::Horizontal, code, addr);
-    let mut w = [0u8; 32];
-    doubled(bytes, &mut w);
-    to_banks(ds, start / 16, &w, 16 - banks::bank(code, start));
+    let (line, first) = begin(Way::Horizontal, code, addr);
+    let twice = [bytes; 2];
+    for (k, byte) in twice.as_flattened()[16 - first..32 - first]
+        .iter()
+        .enumerate()
+    {
+        ds[512 * k + line] = *byte;
+    }
 }
 
 // ---- columns: from the first place on by equal steps, round the store
@@ -96,21 +73,23 @@ fn column_step(code: usize) -> usize
     512 | banks::step(Way::Vertical, code) / 16
 }
 
-// Round the store by its last index, as a mask: with the literal 8191 the compiler would keep the sum unmasked, and mask a copy of it for each byte.
-// (Where the step is a constant, as in pairs, that costs nothing.)
-fn gather(ds: &[u8; 8192], first: usize, step: usize, out: &mut [u8])
-    requires { (length out.old ≡ 16) × (first < 8192) × (step < 8192) }
+// Round the store, as a mask. From a table, since a mask that the compiler knows it takes of a copy of the sum, for each byte anew. (The pairs of code 0 go
+// on by a constant step, where that costs nothing: their number only keeps the table from being one constant.)
+const ROUND: [usize; 4] = [8190, 8191, 8191, 8191];
+
+// Of `out`, a slice, since of a part of an array that is lent as an array a proof doesn't know what is written; so the compiler is told of its sixteen bytes.
+fn gather(ds: &[u8; 8192], first: usize, step: usize, round: usize, out: &mut [u8])
+    requires { (length out.old ≡ 16) × (first < 8192) × (step < 8192) × (round ≡ 8191) }
     ensures { out.new ≡ loaded ds.now (upto (stepped first step) 16) }
 {
-    let last = ds.len() - 1;
     let mut at = first;
-    for i in 0..16 {
-        out[i] = ds[at];
-        at = (at + step) & last;
+    for byte in &mut out[..16] {
+        *byte = ds[at];
+        at = (at + step) & round;
     }
 }
 
-// Code 0: the halves of a cell lie side by side.
+// Code 0: the halves of a cell lie side by side. By index: of what is written through `chunks_exact_mut` a proof knows no more than the length.
 fn gather_pairs(ds: &[u8; 8192], first: usize, out: &mut [u8])
     requires { (length out.old ≡ 16) × (first < 8192) × (first % 2 ≡ 0) }
     ensures { out.new ≡ loaded ds.now (upto (paired first) 16) }
@@ -133,19 +112,18 @@ pub fn load_column(ds: &[u8; 8192], code: usize, addr: usize, out: &mut [u8])
     if code == 0 {
         gather_pairs(ds, first, out);
     } else {
-        gather(ds, first, column_step(code), out);
+        gather(ds, first, column_step(code), ROUND[code], out);
     }
 }
 
-fn scatter(ds: &mut [u8; 8192], first: usize, step: usize, bytes: &[u8; 16])
-    requires { (first < 8192) × (step < 8192) }
+fn scatter(ds: &mut [u8; 8192], first: usize, step: usize, round: usize, bytes: &[u8; 16])
+    requires { (first < 8192) × (step < 8192) × (round ≡ 8191) }
     ensures { ds.new ≡ stored ds.old (upto (stepped first step) 16) bytes.now }
 {
-    let last = ds.len() - 1;
     let mut at = first;
-    for i in 0..16 {
-        ds[at] = bytes[i];
-        at = (at + step) & last;
+    for byte in bytes {
+        ds[at] = *byte;
+        at = (at + step) & round;
     }
 }
 
@@ -171,7 +149,7 @@ pub fn store_column(ds: &mut [u8; 8192], code: usize, addr: usize, bytes: &[u8; 
     if code == 0 {
         scatter_pairs(ds, first, bytes);
     } else {
-        scatter(ds, first, column_step(code), bytes);
+        scatter(ds, first, column_step(code), ROUND[code], bytes);
     }
 }
 
@@ -186,45 +164,22 @@ pub fn joined(b0: u8, b1: u8, b2: u8, b3: u8) -> u32
 }
 
 // The line is added after the banks have come round, so that the compiler adds it once, to the store's address.
-fn word_from(ds: &[u8; 8192], line: usize, first: usize) -> u32
-    requires { (line < 512) × (first < 16) }
-    ensures { result ≡ word_of (loaded ds.now (upto (λ i. in_bank line (first + i)) 4)) }
-{
-    let at = 512 * first;
-    joined(
-        ds[line + at],
-        ds[line + (at + 512) % 8192],
-        ds[line + (at + 1024) % 8192],
-        ds[line + (at + 1536) % 8192],
-    )
-}
-
 pub fn load_word(ds: &[u8; 8192], code: usize, addr: usize) -> u32
     requires { code < 4 }
     ensures { result ≡ word_of (loaded ds.now (places code (addresses Scalar code addr))) }
 {
-    let start = banks::start(Way::Scalar, code, addr);
-    word_from(ds, start / 16, banks::bank(code, start))
-}
-
-fn word_to(ds: &mut [u8; 8192], line: usize, first: usize, word: u32)
-    requires { (line < 512) × (first < 16) }
-    ensures { ds.new ≡ stored ds.old (upto (λ i. in_bank line (first + i)) 4) (bytes_of word) }
-{
-    let at = 512 * first;
-    let [b0, b1, b2, b3] = word.to_le_bytes();
-    ds[line + at] = b0;
-    ds[line + (at + 512) % 8192] = b1;
-    ds[line + (at + 1024) % 8192] = b2;
-    ds[line + (at + 1536) % 8192] = b3;
+    let (line, first) = begin(Way::Scalar, code, addr);
+    u32::from_le_bytes(array::from_fn(|i| ds[line + 512 * (first + i) % 8192]))
 }
 
 pub fn store_word(ds: &mut [u8; 8192], code: usize, addr: usize, word: u32)
     requires { code < 4 }
     ensures { ds.new ≡ stored ds.old (places code (addresses Scalar code addr)) (bytes_of word) }
 {
-    let start = banks::start(Way::Scalar, code, addr);
-    word_to(ds, start / 16, banks::bank(code, start), word);
+    let (line, first) = begin(Way::Scalar, code, addr);
+    for (i, byte) in word.to_le_bytes().iter().enumerate() {
+        ds[line + 512 * (first + i) % 8192] = *byte;
+    }
 }
 
 // The raw view: a bank's 512 bytes, as a part of the lent store.

@@ -4,5 +4,5 @@ use Rattle.store.proofs.Loops.{Filled}
 use Rattle.store.proofs.Steps.{Going}
 use Rattle.store.proofs.gather.Given as goal
 
-abbrev pub invariant-loop-i : goal.invariant-loop-i
-invariant-loop-i l = Going l.first l.step l.last l.i l.at × Filled l.ds (stepped l.first l.step) l.i l.out
+abbrev pub invariant-loop-byte : goal.invariant-loop-byte
+invariant-loop-byte l = Going l.first l.step l.round l.byte-index l.at × Filled l.ds (stepped l.first l.step) l.byte-index l.byte-items

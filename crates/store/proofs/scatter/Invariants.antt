@@ -4,5 +4,5 @@ use Rattle.store.proofs.Loops.{Left}
 use Rattle.store.proofs.Steps.{Going}
 use Rattle.store.proofs.scatter.Given as goal
 
-abbrev pub invariant-loop-i : goal.invariant-loop-i
-invariant-loop-i l = Going l.first l.step l.last l.i l.at × Left l.fn.ds l.bytes (stepped l.first l.step) l.i l.ds
+abbrev pub invariant-loop-byte : goal.invariant-loop-byte
+invariant-loop-byte l = Going l.first l.step l.round l.byte-index l.at × Left l.fn.ds l.bytes (stepped l.first l.step) 16 l.byte-index l.ds
