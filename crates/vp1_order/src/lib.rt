@@ -6,8 +6,6 @@ ghost use Rattle.std.specs.Prelude.{◌≡◌};
 ghost use Rattle.pieces.specs.State.{pieces};
 ghost use Rattle.model.specs.Swap.{verdict, swap_outcome, swap_of, places_outcome, places_of};
 
-use swap::Verdict;
-
 // The places of one triple. Whatever the answer, both counts are written.
 #[unsafe(no_mangle)]
 pub extern "C" fn vp1_places(
@@ -59,15 +57,14 @@ pub extern "C" fn vp1_may_swap(
     let x = swap::may_swap(word1, side1, mask1, word2, side2, mask2, ds, a, r, c, vc, v);
     let end = x.end;
     let n = u32::from(end);
-    let told = x.verdict;
-    let Verdict::Clash(p, w) = told else {
+    let Some(c) = x.clash else {
         *clash = 0;
         *place = 0;
         *writer = 0;
         return n;
     };
     *clash = 1;
-    *place = p;
-    *writer = w;
+    *place = c.place;
+    *writer = c.writer;
     n
 }
