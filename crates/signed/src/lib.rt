@@ -24,9 +24,14 @@ pub fn sext(x: u32, k: u32) -> i32
 pub fn widen(signed: bool, x: u8) -> i32
     ensures { result ≡ widen signed x }
 {
-    if signed { sext(x as u32, 7) } else { x as i32 }
+    if signed {
+        sext(u32::from(x), 7)
+    } else {
+        i32::from(x)
+    }
 }
 
+// Masked first: `as` asks that the value fits.
 pub fn low8(z: i32) -> u8
     ensures { result ≡ low 8 z }
 {
@@ -39,6 +44,7 @@ pub fn low16(z: i32) -> u16
     (z & 0xffff) as u16
 }
 
+// `clamp` asks that the ends be in order; this answers for any two.
 pub fn clip(lo: i32, hi: i32, z: i32) -> i32
     ensures { result ≡ clip lo hi z }
 {

@@ -5,13 +5,13 @@ use Rattle.bits.proofs.bitop32.Goals as goal
 pub returns : goal.returns
 returns c =
     rw (
-      c.gated32-neither.ensures,
+      c.gated-neither.ensures,
       c.bit_of.ensures,
-      c.gated32-first.ensures,
+      c.gated-first.ensures,
       c.bit_of-2.ensures,
-      c.gated32-second.ensures,
+      c.gated-second.ensures,
       c.bit_of-3.ensures,
-      c.gated32-both.ensures,
+      c.gated-both.ensures,
       c.bit_of-4.ensures,
     )
     (products_is 32 c.args.op c.args.a c.args.b c.ranges.a.fits c.ranges.b.fits)
