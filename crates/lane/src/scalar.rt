@@ -16,7 +16,7 @@ pub fn vmax_s(x: u8, y: u8) -> u8
     x.cast_signed().max(y.cast_signed()).cast_unsigned()
 }
 
-// `saturating_add` of signed bytes becomes nine vector instructions, and this sum, clipped, one. So it is with vsub_s and vneg_s.
+// `saturating_add` of signed bytes becomes nine vector instructions, and this sum, clipped, one.
 pub fn vadd_s(x: u8, y: u8) -> u8
     ensures { result ≡ (arith_lane Add true x y).byte }
 {
