@@ -1,4 +1,6 @@
 // The addresses and cells of the store's bytes: the address of one, and how many cells of each bank the steps enter.
+ghost use Rattle.std.specs.Prelude.{◌<◌};
+
 use crate::places::byte_of;
 use std::io::Stdout;
 use text::print::text;
@@ -18,9 +20,11 @@ fn same_cell(p: u32, q: u32) -> bool {
     p / 2 == q / 2
 }
 
-// One cell more, that of this byte of the store. Wrapping, since a bound on the cells is of no use to any caller; no index is above 8191.
-fn enter(banks: &mut [u32; 16], index: usize) {
-    let bank = index / 512 % 16;
+// One cell more, that of this byte of the store. Wrapping, since a bound on the cells is of no use to any caller.
+fn enter(banks: &mut [u32; 16], index: usize)
+    requires { index < 8192 }
+{
+    let bank = index / 512;
     banks[bank] = banks[bank].wrapping_add(1);
 }
 

@@ -1,5 +1,5 @@
 // What a place's number stands for: docs/PLACES.md has the numbers.
-ghost use Rattle.std.specs.Prelude.{◌<◌, IfSome};
+ghost use Rattle.std.specs.Prelude.{◌≡◌, ◌+◌, ◌<◌, IfSome};
 
 use orders::Kind;
 use terms::Half;
@@ -27,17 +27,16 @@ pub fn place_of(number: u32) -> Option<Place> {
         96..=127 => Some(Place::Vector(n - 96)),
         128..=135 => Some(half(Kind::C, n - 128)),
         136..=143 => Some(half(Kind::Vc, n - 136)),
-        144..=8335 => Some(Place::Byte(n - 144)),
-        _ => None,
+        _ => byte_of(number).map(Place::Byte),
     }
 }
 
-// The index of a byte of the store, if the number's place is one.
-pub fn byte_of(number: u32) -> Option<usize> {
-    match place_of(number) {
-        Some(Place::Byte(i)) => Some(i),
-        _ => None,
-    }
+// The index of a byte of the store, if the number's place is one: 144 to 8335.
+pub fn byte_of(number: u32) -> Option<usize>
+    ensures { IfSome result (λ i. (i < 8192) × (number ≡ i + 144)) }
+{
+    let index = (number as usize).checked_sub(144)?;
+    if index < 8192 { Some(index) } else { None }
 }
 
 pub fn in_store(number: u32) -> bool {
