@@ -105,6 +105,7 @@ pub fn set_flags(vc: &mut [u32; 4], vcdst: usize, signs: u16, zeros: u16)
 }
 
 // $v[n], as one value.
+#[tactic(auto, using(crate::proofs::Chunks::get_chunk), unfolding(crate::specs::Inner::Regs::vreg_of))]
 pub fn vreg(v: &[u8; 512], n: usize) -> [u8; 16]
     requires { n < 32 }
     ensures { result ≡ vreg_of v.now n }

@@ -37,6 +37,7 @@ pub fn input_of(vcdst: usize, mask: u32, vc: &[u32; 4]) -> u16
 }
 
 // Flags to $vc[VCDST]; where there is no such register they are not packed at all.
+#[tactic(auto, using(lanes::proofs::Packing::tops_lt), unfolding(pieces::specs::Inner::Regs::flags_at))]
 fn pack(tested: [u8; 16], tops: [u8; 16], vcdst: usize, vc: &mut [u32; 4])
     ensures { vc.new ≡ flags_at vcdst (tops_of tops) (zeros_of tested) vc.old }
 {
@@ -46,6 +47,7 @@ fn pack(tested: [u8; 16], tops: [u8; 16], vcdst: usize, vc: &mut [u32; 4])
 }
 
 // A result to $v[DST], its flags to $vc[VCDST].
+#[tactic(auto, unfolding(crate::specs::Inner::Ports::lanes_at, lanes::specs::Inner::Unpacked::packs))]
 fn write(m: Unpacked, dst: usize, vcdst: usize, vc: &mut [u32; 4], v: &mut [u8; 512])
     requires { dst < 32 }
     ensures { vectors vc.new v.new ≡ lanes_at dst vcdst (packs m) (vectors vc.old v.old) }
@@ -64,6 +66,7 @@ pub fn put(m: Unpacked, dst: usize, vcdst: usize, vc: &mut [u32; 4], v: &mut [u8
 }
 
 // The result of one that counts the components that were clipped.
+#[tactic(auto, unfolding(lanes::specs::Inner::Unpacked::packs))]
 pub fn put_clipped(
     m: Unpacked,
     dst: usize,
