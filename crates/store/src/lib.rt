@@ -14,6 +14,7 @@ use std::array;
 use terms::Way;
 
 // The line on which an access begins, and the bank. (A line is the sixteen bytes that lie at one place of their banks.)
+#[tactic(auto, using(crate::proofs::Access::start_within, crate::proofs::Access::line_within, crate::proofs::Access::bank_within))]
 fn begin(way: Way, code: usize, addr: usize) -> (usize, usize)
     requires { code < 4 }
     ensures line { (result.0 ≡ start_of way code addr / 16) × (result.0 < 512) }
@@ -66,6 +67,7 @@ fn column_head(code: usize, addr: usize) -> usize
 }
 
 // To the next bank, and the stride's lines down: the step of codes 1 to 3. By OR, since a sum would be taken apart, and added in two steps for each byte.
+#[tactic(auto, using(crate::proofs::Access::or_step), unfolding(banks::specs::Line::step_of))]
 fn column_step(code: usize) -> usize
     requires { code < 4 }
     ensures { (result ≡ 512 + stride_of code / 16) × (result ≤ 520) }
@@ -183,6 +185,7 @@ pub fn store_word(ds: &mut [u8; 8192], code: usize, addr: usize, word: u32)
 }
 
 // The raw view: a bank's 512 bytes, as a part of the lent store.
+#[tactic(auto, unfolding(crate::specs::Store::bank_view))]
 pub fn bank_view(store: &[u8], bank: usize) -> &[u8]
     ensures { result.now ≡ bank_view store.now bank }
 {
