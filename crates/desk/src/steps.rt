@@ -6,7 +6,7 @@ use orders::Triple;
 use shown::state::State;
 use shown::{cells, changes, phrases};
 use std::io::Stdout;
-use swap::{Swap, Verdict};
+use swap::{Clash, Swap};
 use terms::{Counts, End};
 use text::print::{counted, text};
 
@@ -20,10 +20,10 @@ pub struct Run {
     pub banks: [u32; 16],
 }
 
-fn print_clash(out: Stdout, place: u32, writer: u32) {
+fn print_clash(out: Stdout, clash: Clash) {
     text(out, b"clash at ");
-    phrases::place(out, place);
-    let which = if writer == 1 { "first" } else { "second" };
+    phrases::place(out, clash.place);
+    let which = if clash.writer == 1 { "first" } else { "second" };
     let _ = print!(out; ", which the {which} writes");
 }
 
@@ -34,9 +34,9 @@ fn print_swap(out: Stdout, s: Swap) {
         phrases::refused(out, s.end);
         return;
     }
-    match s.verdict {
-        Verdict::Free => text(out, b"free"),
-        Verdict::Clash(place, writer) => print_clash(out, place, writer),
+    match s.clash {
+        None => text(out, b"free"),
+        Some(clash) => print_clash(out, clash),
     }
 }
 
