@@ -45,7 +45,7 @@ impl Access for Row {
 
     const WAY: Way = Way::Horizontal;
 
-    // Each has two callers, and would stay out of line.
+    // To be part of the loop, though each has two callers.
     #[inline(always)]
     fn load(n: usize, code: usize, x: usize, ds: &[u8; 8192], v: &mut [u8; 512]) {
         pieces::set_vreg(v, n, store::load_row(ds, code, x));
