@@ -1,11 +1,11 @@
 -- The places of an access are those that the loops go over.
 use mathlib.Core.Path.{◌≡◌, refl, sym, ap, ap₂, ◌∙◌}
-use mathlib.Core.List.{List, map-map}
-use Prim.Native.Nat.{ℕ, zero, suc, ◌+◌, ◌*◌, ◌/◌, ◌%◌, ◌<◌, ◌≤◌}
+use mathlib.Core.List.{List, [], ◌∷◌, map-map}
+use Prim.Native.Nat.{ℕ, zero, suc, ◌+◌, ◌*◌, ◌-◌, ◌/◌, ◌%◌, ◌<◌, ◌≤◌}
 use native.Mathlib.Omega.{arith}
 use native.Mathlib.Nat.{mul-add}
 use lib.Bits.{bit_or}
-use lib.ListN.{length}
+use lib.ListN.{length, drop}
 use Rattle.banks.specs.Bank.{at, turn_of, bank_of}
 use Rattle.banks.specs.Line.{from, line, addresses, start_of, step_of, count_of, stride_of, row_start, word_start, column_start}
 use Rattle.banks.specs.Inner.Access.{places}
@@ -18,7 +18,7 @@ use Rattle.banks.proofs.Banks.{row_bank, column_bank, column0_bank}
 use Rattle.banks.proofs.Masks.{at_line}
 use Rattle.store.specs.Inner.Steps.{upto, stepped, paired, in_bank}
 use Rattle.store.specs.Inner.Loads.{loaded, stored}
-use Rattle.store.proofs.Rows.{Turned, row_loads, row_stores}
+use Rattle.store.proofs.Rows.{row_loads, row_stores}
 
 -- ---- the i-th place of an access: its bank and its line
 
@@ -147,6 +147,18 @@ pub word_places : (c a s b : ℕ) → s ≡ start_of Scalar c a → b ≡ bank_o
 unfolding step_of
 word_places c a = line_places Scalar c a refl
 
+-- a word's places as the code writes them
+pub four_places : (t b : ℕ) → b < 16
+    → (t + 512 * b) ∷ (t + (512 * b + 512) % 8192) ∷ (t + (512 * b + 1024) % 8192) ∷ (t + (512 * b + 1536) % 8192) ∷ []
+    ≡ upto (λ i. in_bank t (b + i)) 4
+unfolding upto in_bank
+four_places t b h =
+    let e0 : t + 512 * b ≡ 512 * ((b + 0) % 16) + t = omega arith in
+    let e1 : t + (512 * b + 512) % 8192 ≡ 512 * ((b + 1) % 16) + t = omega arith in
+    let e2 : t + (512 * b + 1024) % 8192 ≡ 512 * ((b + 2) % 16) + t = omega arith in
+    let e3 : t + (512 * b + 1536) % 8192 ≡ 512 * ((b + 3) % 16) + t = omega arith in
+    rw (e0, e1, e2, e3) refl
+
 module _ (c a s b : ℕ) (e : s ≡ start_of Horizontal c a) (f : b ≡ bank_of c s) where
   row_from : upto (λ i. in_bank (s / 16) (b + i)) 16 ≡ places c (addresses Horizontal c a)
   unfolding step_of
@@ -156,10 +168,10 @@ module _ (c a s b : ℕ) (e : s ≡ start_of Horizontal c a) (f : b ≡ bank_of 
       → r ≡ loaded ds (places c (addresses Horizontal c a))
   row_loaded ds w r p q = q ∙ (rw p (row_loads (s / 16) b ds (bank_within c s b f) ∙ ap (loaded ds) row_from))
 
-  pub row_stored : (ds x us end : List ℕ) → length ds ≡ 8192 → Turned b x us
-      → end ≡ stored ds (upto (in_bank (s / 16)) 16) us → end ≡ stored ds (places c (addresses Horizontal c a)) x
-  row_stored ds x us end h t q =
-      q ∙ row_stores (s / 16) b ds x us t (line_within Horizontal c a s e) (bank_within c s b f) h ∙ ap (λ (ps : List ℕ). stored ds ps x) row_from
+  pub row_stored : (ds x w end : List ℕ) → length ds ≡ 8192 → w ≡ loaded x (upto (λ i. i % 16) 32)
+      → end ≡ stored ds (upto (in_bank (s / 16)) 16) (drop (16 - b) w) → end ≡ stored ds (places c (addresses Horizontal c a)) x
+  row_stored ds x w end h p q =
+      q ∙ (rw p (row_stores (s / 16) b ds x (line_within Horizontal c a s e) (bank_within c s b f) h ∙ ap (λ (ps : List ℕ). stored ds ps x) row_from))
 
 even_down : (c : ℕ) → (c ≡ 0 → ⊥) → stride_of c / 16 % 2 ≡ 0
 unfolding stride_of

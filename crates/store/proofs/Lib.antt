@@ -1,6 +1,5 @@
 -- Laws of loads, stores and the raw view.
 pub mod Laws
-pub mod Made
 pub mod Loops
 pub mod Steps
 pub mod Rows

@@ -1,4 +1,4 @@
--- What a loop over some bytes keeps, turn by turn: how far a buffer is filled, or which stores are left to do.
+-- What a loop over sixteen bytes keeps, turn by turn: how far a buffer is filled, or which stores are left to do.
 use mathlib.Core.Path.{◌≡◌, refl, sym, ap, ◌∙◌}
 use mathlib.Core.List.{List, []}
 use Prim.Native.Nat.{ℕ, ◌+◌, ◌*◌, ◌%◌, ◌≤◌, ◌<◌}
@@ -72,30 +72,30 @@ twice_all {xs} {g} {i} {w} t u = loads_by g 32 xs w t.size (λ k l. t.made k l (
 
 -- ---- the stores from the i-th on, done to the store as it is, are all of them done to the first one
 
-pub record Left (old vs : List ℕ) (g : ℕ → ℕ) (n i : ℕ) (ds : List ℕ) : Type 0 where
+pub record Left (old vs : List ℕ) (g : ℕ → ℕ) (i : ℕ) (ds : List ℕ) : Type 0 where
   pub size : length ds ≡ 8192
-  pub rest : stored ds (drop i (upto g n)) (drop i vs) ≡ stored old (upto g n) vs
+  pub rest : stored ds (drop i (upto g 16)) (drop i vs) ≡ stored old (upto g 16) vs
 
-pub left_all : (old vs : List ℕ) (g : ℕ → ℕ) (n : ℕ) → length old ≡ 8192 → Left old vs g n 0 old
-left_all old vs g n h = record { size = h; rest = refl }
+pub left_all : (old vs : List ℕ) (g : ℕ → ℕ) → length old ≡ 8192 → Left old vs g 0 old
+left_all old vs g h = record { size = h; rest = refl }
 
-pub left_less : {old vs : List ℕ} {g : ℕ → ℕ} {n i : ℕ} {ds : List ℕ} (p v : ℕ) → Left old vs g n i ds → i < n → p ≡ g i
-    → v ≡ get_or vs i 0 → Left old vs g n (i + 1) (set ds p v)
-left_less {old} {vs} {g} {n} {i} {ds} p v t l q e =
-    let m = length_upto g n in
+pub left_less : {old vs : List ℕ} {g : ℕ → ℕ} {i : ℕ} {ds : List ℕ} (p v : ℕ) → Left old vs g i ds → i < 16 → p ≡ g i
+    → v ≡ get_or vs i 0 → Left old vs g (i + 1) (set ds p v)
+left_less {old} {vs} {g} {i} {ds} p v t l q e =
+    let m = length_upto g 16 in
     record {
       size = simp length-set t.size;
-      rest = rw (q, e, ← get_d_upto g n i l, ← stored_next ds (upto g n) vs i (omega arith)) t.rest;
+      rest = rw (q, e, ← get_d_upto g 16 i l, ← stored_next ds (upto g 16) vs i (omega arith)) t.rest;
     }
 
-pub left_two : {old vs : List ℕ} {g : ℕ → ℕ} {i : ℕ} {ds : List ℕ} (p q v w : ℕ) → Left old vs g 16 (2 * i) ds → i < 8
+pub left_two : {old vs : List ℕ} {g : ℕ → ℕ} {i : ℕ} {ds : List ℕ} (p q v w : ℕ) → Left old vs g (2 * i) ds → i < 8
     → p ≡ g (2 * i) → q ≡ g (2 * i + 1) → v ≡ get_or vs (2 * i) 0 → w ≡ get_or vs (2 * i + 1) 0
-    → Left old vs g 16 (2 * (i + 1)) (set (set ds p v) q w)
+    → Left old vs g (2 * (i + 1)) (set (set ds p v) q w)
 left_two {old} {vs} {g} {i} {ds} p q v w t l e f x y =
     rw (← two i) (left_less {i = 2 * i + 1} q w (left_less {i = 2 * i} p v t (omega arith) e x) (omega arith) f y)
 
-pub left_none : {old vs : List ℕ} {g : ℕ → ℕ} {n i : ℕ} {ds : List ℕ} → Left old vs g n i ds → n ≤ i → ds ≡ stored old (upto g n) vs
-left_none {old} {vs} {g} {n} {i} {ds} t u =
-    let m = length_upto g n in
-    let z : drop i (upto g n) ≡ [] = drop_of_length-le (upto g n) {i = i} (omega arith) in
+pub left_none : {old vs : List ℕ} {g : ℕ → ℕ} {i : ℕ} {ds : List ℕ} → Left old vs g i ds → 16 ≤ i → ds ≡ stored old (upto g 16) vs
+left_none {old} {vs} {g} {i} {ds} t u =
+    let m = length_upto g 16 in
+    let z : drop i (upto g 16) ≡ [] = drop_of_length-le (upto g 16) {i = i} (omega arith) in
     sym (stored_none ds (drop i vs)) ∙ ap (λ (l : List ℕ). stored ds l (drop i vs)) (sym z) ∙ t.rest

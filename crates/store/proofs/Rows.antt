@@ -1,39 +1,23 @@
 -- A row is a line's bytes from one bank on: the order of its stores does not matter, since they go to a bank each.
 use mathlib.Core.Path.{◌≡◌, sym, ap, ◌∙◌}
-use mathlib.Core.List.{List, [], ◌++◌}
-use Prim.Native.Nat.{ℕ, ◌+◌, ◌*◌, ◌-◌, ◌/◌, ◌%◌, ◌<◌, ◌≤◌}
+use mathlib.Core.List.{List}
+use Prim.Native.Nat.{ℕ, ◌+◌, ◌*◌, ◌-◌, ◌/◌, ◌%◌, ◌<◌}
 use native.Mathlib.Omega.{arith}
-use native.Mathlib.Decide.{ℕ_discrete, dec_lt}
-use lib.ListN.{length, get_or, take, drop}
-use lib.Seq.{ext_get_or, get_or-take, get_or-drop}
-use Rattle.std.proofs.lemmas.List.{get_or_append_left, get_or-append-add}
+use native.Mathlib.Decide.{ℕ_discrete}
+use lib.ListN.{length, get_or, drop}
+use lib.Seq.{ext_get_or, get_or-drop}
 use Rattle.store.specs.Inner.Steps.{upto, in_bank}
 use Rattle.store.specs.Inner.Loads.{loaded, stored}
-use Rattle.store.proofs.Laws.{length_stored, loads_loads, stored_not, stored_at}
+use Rattle.store.proofs.Laws.{length_stored, get_d_loads, loads_loads, stored_not, stored_at}
 
 pub row_loads : (l b : ℕ) (ds : List ℕ) → b < 16
     → loaded (loaded ds (upto (in_bank l) 32)) (upto (λ i. b + i) 16) ≡ loaded ds (upto (λ i. in_bank l (b + i)) 16)
 row_loads l b ds h = loads_loads (in_bank l) (λ i. b + i) 32 16 ds (λ i u. omega arith)
 
 -- the byte of the row that goes to bank k
-abbrev pub Turned : ℕ → List ℕ → List ℕ → Type 0
-Turned b x us = (k : ℕ) → k < 16 → get_or us k 0 ≡ get_or x ((16 - b + k) % 16) 0
-
--- a list that stands twice, read in its second half
-again : (x : List ℕ) (m j : ℕ) → m < length x → j ≡ length x + m → get_or (x ++ (x ++ [])) j 0 ≡ get_or x m 0
-again x m j h e = (rw e (get_or-append-add x (x ++ []) m 0)) ∙ get_or_append_left x [] 0 m h
-
-pub turned : (b n : ℕ) (x w : List ℕ) → length x ≡ 16 → b < 16 → 16 ≤ n → w ≡ x ++ (x ++ []) → Turned b x (take n (drop (16 - b) w))
-turned b n x w whole hb hn e k hk =
-    get_or-take n (drop (16 - b) w) k 0 (omega arith) ∙ get_or-drop (16 - b) w k 0 ∙ (rw e (go (dec_lt (16 - b + k) 16)))
-  where
-    go : Dec (16 - b + k < 16) → get_or (x ++ (x ++ [])) (16 - b + k) 0 ≡ get_or x ((16 - b + k) % 16) 0
-    go (yes l) =
-        let z : (16 - b + k) % 16 ≡ 16 - b + k = omega arith in
-        rw z (get_or_append_left x (x ++ []) 0 (16 - b + k) (omega arith))
-    go (no l) =
-        let z : 16 - b + k - 16 ≡ (16 - b + k) % 16 = omega arith in
-        again x (16 - b + k - 16) (16 - b + k) (omega arith) (omega arith) ∙ ap (λ (m : ℕ). get_or x m 0) z
+turned : (b k : ℕ) (x : List ℕ) → b < 16 → k < 16
+    → get_or (drop (16 - b) (loaded x (upto (λ i. i % 16) 32))) k 0 ≡ get_or x ((16 - b + k) % 16) 0
+turned b k x hb hk = get_or-drop (16 - b) _ k 0 ∙ get_d_loads (λ i. i % 16) 32 x (16 - b + k) (omega arith)
 
 -- the code's place of bank k, and of the second half's bank 16 + k
 pub in_bank_lem : (l k : ℕ) → k < 16 → 512 * k + l ≡ in_bank l k
@@ -56,7 +40,10 @@ bank_at_lem : (l p : ℕ) → p < 8192 → p % 512 ≡ l → (k : ℕ) → k % 1
 unfolding in_bank
 bank_at_lem l p h e k f = rw f (omega arith)
 
-module _ (l b : ℕ) (ds x us : List ℕ) (turn : Turned b x us) (hl : l < 512) (hb : b < 16) (whole : length ds ≡ 8192) where
+module _ (l b : ℕ) (ds x : List ℕ) (hl : l < 512) (hb : b < 16) (whole : length ds ≡ 8192) where
+  abbrev us : List ℕ
+  us = drop (16 - b) (loaded x (upto (λ i. i % 16) 32))
+
   pub row_stores : stored ds (upto (in_bank l) 16) us
       ≡ stored ds (upto (λ i. in_bank l (b + i)) 16) x
   row_stores =
@@ -70,7 +57,7 @@ module _ (l b : ℕ) (ds x us : List ℕ) (turn : Turned b x us) (hl : l < 512) 
           let i = (16 - b + k) % 16 in
           stored_at (in_bank l) 16 ds us p k (omega arith) (bank_at_lem l p u q k (omega arith))
           (λ j v e. omega (arith, bank_of_lem l j hl, ap (λ (n : ℕ). n / 512) e)) (omega arith)
-          ∙ turn k (omega arith)
+          ∙ turned b k x hb (omega arith)
           ∙ sym (stored_at (λ n. in_bank l (b + n)) 16 ds x p i (omega arith) (bank_at_lem l p u q (b + i) (omega arith))
           (λ j v e. omega (arith, bank_of_lem l (b + j) hl, ap (λ (n : ℕ). n / 512) e)) (omega arith))
       go p u (no n) =

@@ -2,7 +2,7 @@
 #![tactic(auto)]
 
 ghost use Rattle.std.specs.Prelude.{◌≡◌, [], ◌∷◌, ◌+◌, ◌/◌, ◌%◌, ◌<◌, ◌≤◌, length, drop};
-ghost use Rattle.banks.specs.Bank.{at, bank_of};
+ghost use Rattle.banks.specs.Bank.{at};
 ghost use Rattle.banks.specs.Line.{addresses, start_of, stride_of};
 ghost use Rattle.banks.specs.Inner.Access.{places};
 ghost use Rattle.terms.specs.declared.Way.TheVariants.{Horizontal, Vertical, Scalar};
@@ -10,50 +10,73 @@ ghost use Rattle.store.specs.Inner.Steps.{upto, stepped, paired, in_bank};
 ghost use Rattle.store.specs.Inner.Loads.{loaded, stored, word_of, bytes_of};
 ghost use Rattle.store.specs.Store.{bank_view};
 
-use std::array;
 use terms::Way;
-
-// The line on which an access begins, and the bank. (A line is the sixteen bytes that lie at one place of their banks.)
-#[tactic(auto, using(crate::proofs::Access::start_within, crate::proofs::Access::line_within, crate::proofs::Access::bank_within))]
-fn begin(way: Way, code: usize, addr: usize) -> (usize, usize)
-    requires { code < 4 }
-    ensures line { (result.0 ≡ start_of way code addr / 16) × (result.0 < 512) }
-    ensures bank { (result.1 ≡ bank_of code (start_of way code addr)) × (result.1 < 16) }
-{
-    let start = banks::start(way, code, addr);
-    (start / 16, banks::bank(code, start))
-}
 
 // ---- rows: a line's byte in each of the sixteen banks, from one bank on round
 
-// In the order of the banks, twice, so that the row lies in one piece wherever it begins. (Not by `from_fn`, which would take 24 instructions more.)
+// In the order of the banks, twice, so that a row lies in one piece wherever it begins. (Rows and words go by index, each in a function of its own: with
+// iterators or `from_fn` over the same places a load or store takes two to eight instructions more.)
+fn banked(ds: &[u8; 8192], line: usize, w: &mut [u8; 32])
+    requires { line < 512 }
+    ensures { w.new ≡ loaded ds.now (upto (in_bank line) 32) }
+{
+    for k in 0..16 {
+        let b = ds[512 * k + line];
+        w[k] = b;
+        w[16 + k] = b;
+    }
+}
+
+fn part(w: &[u8; 32], first: usize) -> [u8; 16]
+    requires { first ≤ 16 }
+    ensures { result ≡ loaded w.now (upto (λ i. first + i) 16) }
+{
+    let mut x = [0u8; 16];
+    for i in 0..16 {
+        x[i] = w[first + i];
+    }
+    x
+}
+
 pub fn load_row(ds: &[u8; 8192], code: usize, addr: usize) -> [u8; 16]
     requires { code < 4 }
     ensures { result ≡ loaded ds.now (places code (addresses Horizontal code addr)) }
 {
-    let (line, first) = begin(Way::Horizontal, code, addr);
-    let mut twice = [0; 32];
-    for k in 0..16 {
-        let byte = ds[512 * k + line];
-        twice[k] = byte;
-        twice[16 + k] = byte;
+    let start = banks::start(Way::Horizontal, code, addr);
+    let mut w = [0u8; 32];
+    banked(ds, start / 16, &mut w);
+    part(&w, banks::bank(code, start))
+}
+
+// The same of a row that is to be stored.
+fn doubled(x: [u8; 16], w: &mut [u8; 32])
+    ensures { w.new ≡ loaded x (upto (λ i. i % 16) 32) }
+{
+    for i in 0..16 {
+        let b = x[i];
+        w[i] = b;
+        w[16 + i] = b;
     }
-    array::from_fn(|i| twice[first + i])
 }
 
 // Bank by bank, which is not the row's order: each byte has its own bank, so the order does not matter.
+fn to_banks(ds: &mut [u8; 8192], line: usize, w: &[u8; 32], first: usize)
+    requires { (line < 512) × (first ≤ 16) }
+    ensures { ds.new ≡ stored ds.old (upto (in_bank line) 16) (drop first w.now) }
+{
+    for k in 0..16 {
+        ds[512 * k + line] = w[first + k];
+    }
+}
+
 pub fn store_row(ds: &mut [u8; 8192], code: usize, addr: usize, bytes: [u8; 16])
     requires { code < 4 }
     ensures { ds.new ≡ stored ds.old (places code (addresses Horizontal code addr)) bytes }
 {
-    let (line, first) = begin(Way::Horizontal, code, addr);
-    let twice = [bytes; 2];
-    for (k, byte) in twice.as_flattened()[16 - first..32 - first]
-        .iter()
-        .enumerate()
-    {
-        ds[512 * k + line] = *byte;
-    }
+    let start = banks::start(Way::Horizontal, code, addr);
+    let mut w = [0u8; 32];
+    doubled(bytes, &mut w);
+    to_banks(ds, start / 16, &w, 16 - banks::bank(code, start));
 }
 
 // ---- columns: from the first place on by equal steps, round the store
@@ -67,7 +90,6 @@ fn column_head(code: usize, addr: usize) -> usize
 }
 
 // To the next bank, and the stride's lines down: the step of codes 1 to 3. By OR, since a sum would be taken apart, and added in two steps for each byte.
-#[tactic(auto, using(crate::proofs::Access::or_step), unfolding(banks::specs::Line::step_of))]
 fn column_step(code: usize) -> usize
     requires { code < 4 }
     ensures { (result ≡ 512 + stride_of code / 16) × (result ≤ 520) }
@@ -166,26 +188,48 @@ pub fn joined(b0: u8, b1: u8, b2: u8, b3: u8) -> u32
 }
 
 // The line is added after the banks have come round, so that the compiler adds it once, to the store's address.
+fn word_from(ds: &[u8; 8192], line: usize, first: usize) -> u32
+    requires { (line < 512) × (first < 16) }
+    ensures { result ≡ word_of (loaded ds.now (upto (λ i. in_bank line (first + i)) 4)) }
+{
+    let at = 512 * first;
+    joined(
+        ds[line + at],
+        ds[line + (at + 512) % 8192],
+        ds[line + (at + 1024) % 8192],
+        ds[line + (at + 1536) % 8192],
+    )
+}
+
 pub fn load_word(ds: &[u8; 8192], code: usize, addr: usize) -> u32
     requires { code < 4 }
     ensures { result ≡ word_of (loaded ds.now (places code (addresses Scalar code addr))) }
 {
-    let (line, first) = begin(Way::Scalar, code, addr);
-    u32::from_le_bytes(array::from_fn(|i| ds[line + 512 * (first + i) % 8192]))
+    let start = banks::start(Way::Scalar, code, addr);
+    word_from(ds, start / 16, banks::bank(code, start))
+}
+
+fn word_to(ds: &mut [u8; 8192], line: usize, first: usize, word: u32)
+    requires { (line < 512) × (first < 16) }
+    ensures { ds.new ≡ stored ds.old (upto (λ i. in_bank line (first + i)) 4) (bytes_of word) }
+{
+    let at = 512 * first;
+    let [b0, b1, b2, b3] = word.to_le_bytes();
+    ds[line + at] = b0;
+    ds[line + (at + 512) % 8192] = b1;
+    ds[line + (at + 1024) % 8192] = b2;
+    ds[line + (at + 1536) % 8192] = b3;
 }
 
 pub fn store_word(ds: &mut [u8; 8192], code: usize, addr: usize, word: u32)
     requires { code < 4 }
     ensures { ds.new ≡ stored ds.old (places code (addresses Scalar code addr)) (bytes_of word) }
 {
-    let (line, first) = begin(Way::Scalar, code, addr);
-    for (i, byte) in word.to_le_bytes().iter().enumerate() {
-        ds[line + 512 * (first + i) % 8192] = *byte;
-    }
+    let start = banks::start(Way::Scalar, code, addr);
+    word_to(ds, start / 16, banks::bank(code, start), word);
 }
 
 // The raw view: a bank's 512 bytes, as a part of the lent store.
-#[tactic(auto, unfolding(crate::specs::Store::bank_view))]
 pub fn bank_view(store: &[u8], bank: usize) -> &[u8]
     ensures { result.now ≡ bank_view store.now bank }
 {

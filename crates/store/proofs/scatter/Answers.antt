@@ -5,7 +5,7 @@ use Rattle.store.proofs.Steps.{going, going_on}
 use Rattle.store.proofs.scatter.Goals as goal
 
 pub loop-byte-init : goal.loop-byte-init
-loop-byte-init c = (going _ _ _ (search rules) (search rules), left_all _ _ _ _ (search rules))
+loop-byte-init c = (going _ _ _ (search rules) (search rules), left_all _ _ _ (search rules))
 
 pub loop-byte-preserved : goal.loop-byte-preserved
 loop-byte-preserved c =

@@ -5,4 +5,4 @@ use Rattle.store.proofs.Steps.{Going}
 use Rattle.store.proofs.scatter.Given as goal
 
 abbrev pub invariant-loop-byte : goal.invariant-loop-byte
-invariant-loop-byte l = Going l.first l.step l.round l.byte-index l.at × Left l.fn.ds l.bytes (stepped l.first l.step) 16 l.byte-index l.ds
+invariant-loop-byte l = Going l.first l.step l.round l.byte-index l.at × Left l.fn.ds l.bytes (stepped l.first l.step) l.byte-index l.ds

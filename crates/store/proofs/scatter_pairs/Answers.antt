@@ -5,7 +5,7 @@ use Rattle.store.proofs.Steps.{stepped_none, stepped_more, paired_low, paired_hi
 use Rattle.store.proofs.scatter_pairs.Goals as goal
 
 pub loop-i-init : goal.loop-i-init
-loop-i-init c = (stepped_none _ _ (search rules), omega arith, left_all _ _ _ _ (search rules))
+loop-i-init c = (stepped_none _ _ (search rules), omega arith, left_all _ _ _ (search rules))
 
 pub loop-i-preserved : goal.loop-i-preserved
 loop-i-preserved c =
@@ -14,7 +14,7 @@ loop-i-preserved c =
     let e = stepped_more first 514 l.i l.at l.invariant.0 in (
       e,
       omega (arith, high_lt first (l.i + 1) (search rules)),
-      left_two l.at (l.at + 1) _ _ l.invariant.2 (omega arith) (l.invariant.0 ∙ paired_low first l.i)
+      left_two l.at (l.at + 1) _ _ l.invariant.2 c.loop-i-test.true (l.invariant.0 ∙ paired_low first l.i)
           (ap (λ (x : ℕ). x + 1) l.invariant.0 ∙ paired_high first l.i) refl refl,
     )
 

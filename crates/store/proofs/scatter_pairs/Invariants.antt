@@ -5,4 +5,4 @@ use Rattle.store.proofs.Loops.{Left}
 use Rattle.store.proofs.scatter_pairs.Given as goal
 
 abbrev pub invariant-loop-i : goal.invariant-loop-i
-invariant-loop-i l = (l.at ≡ stepped l.first 514 l.i) × (l.at + 1 < 8192) × Left l.fn.ds l.bytes (paired l.first) 16 (2 * l.i) l.ds
+invariant-loop-i l = (l.at ≡ stepped l.first 514 l.i) × (l.at + 1 < 8192) × Left l.fn.ds l.bytes (paired l.first) (2 * l.i) l.ds
