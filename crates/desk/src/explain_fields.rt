@@ -17,7 +17,7 @@ fn signed(out: Stdout, name: &str, value: u32) {
     let _ = print!(out; ", {name} {value}");
 }
 
-// The field of an operand, by the operand's number in the table of `names`. `$vc` has none.
+// The field of an operand. Numbers, since `names::form_of` has them as the digits of a word, by its contract. `$vc` has no field.
 fn field(out: Stdout, operand: u32, word: u32) {
     match operand {
         1 | 4 | 6 => plain(out, "DST", word >> 19 & 31),

@@ -20,6 +20,7 @@ pub struct Run {
     pub banks: [u32; 16],
 }
 
+// The writer is a number, since swap hands it to C as one.
 fn print_clash(out: Stdout, clash: Clash) {
     text(out, b"clash at ");
     phrases::place(out, clash.place);

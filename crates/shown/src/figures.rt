@@ -1,12 +1,6 @@
 // Numbers and bytes as they are shown. A write that fails is let go, as in text::print.
 use std::io::Stdout;
-use text::print::{hex, text};
-
-// `0x` and at least so many digits.
-pub fn prefixed(out: Stdout, n: u64, digits: usize) {
-    text(out, b"0x");
-    hex(out, n, digits);
-}
+use text::print::text;
 
 // A name and a number, as a line: `steps 3`.
 pub fn line(out: Stdout, name: &str, n: u64) {

@@ -1,5 +1,5 @@
-// What is shown of a state and of a step on standard output: docs/LISTING.md fixes every byte. Nothing is asked of numbers and of the lengths of slices: where they are those
-// of no register and of no byte of the store, a 0 or nothing stands for it.
+// What is shown of a state and of a step on standard output: docs/LISTING.md fixes every byte. Nothing is asked of numbers: where they are those of no register and of
+// no byte of the store, a 0 or nothing stands for it.
 #![tactic(auto)]
 
 pub mod cells; // cells.rt: the addresses and cells of the store's bytes

@@ -1,5 +1,5 @@
 // The parts of registers: how their names and values are written.
-use crate::figures::{prefixed, stride};
+use crate::figures::stride;
 use orders::Field;
 use orders::fields::bits;
 use std::io::Stdout;
