@@ -1,19 +1,21 @@
 -- Comparing a text with a line's bytes, and the first byte of a text.
-use mathlib.Core.Path.{◌≡◌, refl, ap, ◌∙◌, sym, subst}
-use mathlib.Core.Bool.{Bool, true, false}
+use mathlib.Core.Path.{◌≡◌, refl, ap, ◌∙◌, sym}
+use mathlib.Core.Bool.{Bool, true, false, ◌&&◌}
 use mathlib.Core.List.{List, [], ◌∷◌}
-use Prim.Native.Nat.{ℕ, ◌*◌, ◌-◌, ◌%◌, ◌<◌, ◌≤◌}
+use Prim.Native.Nat.{ℕ, ◌*◌, ◌-◌, ◌%◌}
 use native.Mathlib.Omega.{arith}
 use native.Mathlib.Nat.{add-zero}
 use native.Mathlib.Decide.{ℕ_discrete}
 use borrow.Author.Tests.{eq-eqb, ne_eqb}
 use lib.Dec.{T, eqb}
-use lib.ListN.{length, take, drop, get_or}
-use lib.Seq.{ext_get_or, get_or-take, get_or-drop, length-take-le}
+use lib.Pointwise.{pointwise}
+use Rattle.std.specs.Prelude.{nat_eq}
+use lib.ListN.{drop, get_or}
+use lib.Seq.{get_or-drop}
 use Rattle.names.specs.Calls.{eqs}
 use Rattle.names.specs.Inner.Scan.{split, digits_of}
 use Rattle.names.specs.Inner.Code.{slot_at, taken_at}
-use Rattle.names.proofs.Tests.{eqs_eq, eqs_refl, T_true}
+use Rattle.names.proofs.Tests.{eqs_eq}
 
 differ_case : (t : Bool) → (T t → ⊥) → false ≡ t
 differ_case true h = absurd (h tt)
@@ -21,19 +23,6 @@ differ_case false h = refl
 
 pub differ : (s t : List ℕ) → (s ≡ t → ⊥) → false ≡ eqs s t
 differ s t h = differ_case (eqs s t) (λ e. h (eqs_eq s t e))
-
-module _ (n : ℕ) (bs t : List ℕ) (l : n ≤ length bs) where
-  pub long : (length t ≡ n → ⊥) → false ≡ eqs (take n bs) t
-  long h = differ (take n bs) t (λ q. h (sym (ap length q) ∙ length-take-le n bs (omega arith)))
-
-  pub apart_at : (i : ℕ) → i < n → (get_or t i 0 ≡ get_or bs i 0 → ⊥) → false ≡ eqs (take n bs) t
-  apart_at i h f = differ (take n bs) t (λ q. f (sym (ap (λ (x : List ℕ). get_or x i 0) q) ∙ get_or-take n bs i 0 h))
-
-  pub whole : length t ≡ n → ((k : ℕ) → k < n → get_or t k 0 ≡ get_or bs k 0) → true ≡ eqs (take n bs) t
-  whole q f =
-      let m : length (take n bs) ≡ n = length-take-le n bs (omega arith) in
-      let s : take n bs ≡ t = ext_get_or 0 (take n bs) t (m ∙ sym q) (λ i h. let g : i < n = omega arith in get_or-take n bs i 0 g ∙ sym (f i g)) in
-      sym (T_true (eqs (take n bs) t) (subst (λ (x : List ℕ). T (eqs (take n bs) x)) s (eqs_refl (take n bs))))
 
 -- ---- the first byte of a text
 module _ (x : ℕ) (z : x ≡ 0 → ⊥) (feed : x ≡ 10 → ⊥) (space : x ≡ 32 → ⊥) where
@@ -70,3 +59,10 @@ module _ (t : List ℕ) (at : ℕ) where
   pub imm_plus : (get_or t at 0 ≡ 45 → ⊥) → digits_of 16 0 (drop 2 word) % 2048 * 8 ≡ taken_at 15 word
   unfolding taken_at slot_at
   imm_plus e = rw (head_at 45 (λ q. omega arith) (λ q. omega arith) (λ q. omega arith) t at, ne_eqb (get_or t at 0) 45 e) refl
+
+-- ---- two texts, as `==` compares them
+pub pointwise_eqs : (s t : List ℕ) → pointwise nat_eq s t ≡ eqs s t
+pointwise_eqs [] [] = refl
+pointwise_eqs [] (b ∷ t) = refl
+pointwise_eqs (a ∷ s) [] = refl
+pointwise_eqs (a ∷ s) (b ∷ t) = ap (λ (e : Bool). eqb a b && e) (pointwise_eqs s t)

@@ -5,7 +5,6 @@ use mathlib.Core.List.{List, [], ◌∷◌}
 use Prim.Native.Nat.{ℕ, ◌+◌, ◌*◌, ◌%◌, ◌^◌, ◌<◌, ◌≤◌}
 use native.Mathlib.Nat.{mod-lt, zero-div, zero-mod, one-le-pow}
 use native.Mathlib.Omega.{arith}
-use native.Mathlib.Decide.{dec_lt, ℕ_discrete}
 use lib.Dec.{T, eqb→eq}
 use lib.ListN.{length, drop}
 use Rattle.terms.specs.Answers.{number}
@@ -138,17 +137,9 @@ module _ (t : List ℕ) where
       let o : op_of 0 ≡ op = ap (λ (x : ℕ). op_of x) (sym r) ∙ candidate_op op (omega arith) in
       omega (arith, l, o)
 
-  -- no opcode before the next one of this name is written so
+  -- no opcode of another name is written so
   pub passed_over : (h : ℕ) → ((k : ℕ) → k < 256 → named_by t k ≡ bears h k) → (op : ℕ) → op < 256 → (head_code op ≡ h → ⊥) → tried_at op t ≡ 0
   passed_over h names op l z = sym (tried_other op (other_name h op l names z))
-
-  pub go_on : (h : ℕ) → ((k : ℕ) → k < 256 → named_by t k ≡ bears h k) → (op r : ℕ) → r ≤ 224 → ((k : ℕ) → 128 ≤ k → k < op → tried_at k t ≡ 0) → tried_at op t ≡ 0
-      → ((k : ℕ) → op + 1 ≤ k → k < r → head_code k ≡ h → ⊥) → (k : ℕ) → 128 ≤ k → k < r → tried_at k t ≡ 0
-  go_on h names op r b f e g k m l =
-      elim (dec_lt k op) [
-        | yes q ↦ f k m q
-        | no q ↦ elim (ℕ_discrete k op) [ yes p ↦ rw p e | no p ↦ passed_over h names k (omega arith) (g k (omega arith) l) ]
-      ]
 
   -- ---- the call's answers, from what the code has found out
   pub read_unended : one_feed t ≡ false → unread Unended ≡ read_of t

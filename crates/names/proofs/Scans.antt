@@ -1,6 +1,6 @@
 -- The reader's loops, a byte at a time: what the text from a place on splits into.
 use mathlib.Core.Path.{◌≡◌, refl, ap, ◌∙◌, sym}
-use mathlib.Core.Bool.{false, cond}
+use mathlib.Core.Bool.{Bool, true, false, cond}
 use mathlib.Core.List.{List, [], ◌∷◌}
 use Prim.Native.Nat.{ℕ, zero, suc, ◌+◌, ◌*◌, ◌-◌, ◌%◌, ◌<◌, ◌≤◌}
 use native.Mathlib.Nat.{mul-le-mul}
@@ -8,9 +8,11 @@ use native.Mathlib.Numerals.{add-one}
 use native.Mathlib.Omega.{arith}
 use native.Mathlib.Decide.{ℕ_discrete}
 use borrow.Author.Tests.{eq-eqb, ne_eqb}
+use mir.Val.{bool_byte}
 use lib.Dec.{eqb}
-use lib.ListN.{length, drop, get_or, length-drop}
-use lib.Seq.{drop-cons, drop-length}
+use lib.ListN.{length, take, drop, get_or, length-drop}
+use lib.Seq.{drop-cons, drop-length, get_or-drop}
+use Rattle.std.proofs.lemmas.List.{take_rest}
 use Rattle.names.specs.Calls.{one_feed}
 use Rattle.names.specs.Inner.Scan.{split, digit_of, digits_of}
 
@@ -43,6 +45,10 @@ module _ (t : List ℕ) (i : ℕ) (h : i < length t) where
   unfolding one_feed
   feed_on e = rw (here t i h, ne_eqb (get_or t i 0) 10 e) refl
 
+-- a byte of what is left, as a slice from a place on
+pub left_at : (t : List ℕ) (at i : ℕ) → get_or (take (length t - at) (drop at t)) i 0 ≡ get_or t (at + i) 0
+left_at t at i = ap (λ (l : List ℕ). get_or l i 0) (take_rest t at) ∙ get_or-drop at t i 0
+
 pub at_end : (t : List ℕ) (i : ℕ) → length t ≤ i → i ≤ length t → drop i t ≡ []
 at_end t i g h = let e : i ≡ length t = omega arith in ap (λ (k : ℕ). drop k t) e ∙ drop-length t
 
@@ -70,11 +76,15 @@ count_space t i h e = ap (λ (r : List ℕ × List (List ℕ)). length r.1) (at_
 pub count_inner : (t : List ℕ) (i : ℕ) → i < length t → (get_or t i 0 ≡ 10 → ⊥) → (get_or t i 0 ≡ 32 → ⊥) → length (Rest t i) ≡ length (Rest t (i + 1))
 count_inner t i h e f = ap (λ (r : List ℕ × List (List ℕ)). length r.1) (at_inner t i h e f)
 
-count_case : (t : List ℕ) (i : ℕ) → i < length t → (get_or t i 0 ≡ 10 → ⊥) → Dec (get_or t i 0 ≡ 32) → length (Rest t i) ≡ length (Rest t (i + 1)) + cond (eqb (get_or t i 0) 32) 1 0
+count_case : (t : List ℕ) (i : ℕ) → i < length t → (get_or t i 0 ≡ 10 → ⊥) → Dec (get_or t i 0 ≡ 32) → length (Rest t i) ≡ length (Rest t (i + 1)) + bool_byte (eqb (get_or t i 0) 32)
 count_case t i h e (yes q) = rw (eq-eqb (get_or t i 0) 32 q) (count_space t i h q)
 count_case t i h e (no q) = rw (ne_eqb (get_or t i 0) 32 q) (count_inner t i h e q ∙ omega arith)
 
-pub count_on : (t : List ℕ) (i : ℕ) → i < length t → (get_or t i 0 ≡ 10 → ⊥) → length (Rest t i) ≡ length (Rest t (i + 1)) + cond (eqb (get_or t i 0) 32) 1 0
+pub one_at_most : (s : Bool) → bool_byte s ≤ 1
+one_at_most true = omega arith
+one_at_most false = omega arith
+
+pub count_on : (t : List ℕ) (i : ℕ) → i < length t → (get_or t i 0 ≡ 10 → ⊥) → length (Rest t i) ≡ length (Rest t (i + 1)) + bool_byte (eqb (get_or t i 0) 32)
 count_on t i h e = count_case t i h e (ℕ_discrete (get_or t i 0) 32)
 
 abbrev pub Digits : ℕ → ℕ → ℕ → List ℕ → ℕ → ℕ

@@ -6,9 +6,9 @@ ghost use Rattle.names.specs.Calls.{named_by};
 ghost use Rattle.names.specs.Inner.Scan.{split, operand_texts, candidate};
 ghost use Rattle.names.specs.Inner.Code.{head_code, bears, tried_at, word_in};
 
-use crate::line::{same, spelt};
+use crate::line::spelt;
 use crate::scan::next;
-use crate::table::{form_of, name_of, next_named, spaced};
+use crate::table::{form_of, head_of, name_of, spaced};
 use crate::take::gather_all;
 
 // Where the text is looked at for operands: behind the name, or behind the text after it, where that belongs to the name.
@@ -39,7 +39,7 @@ fn tried(text: &[u8], op: u32) -> u32
     let w = candidate(text, op);
     let mut line = [0u8; 64];
     let n = spelt(&mut line, w);
-    if same(text, &line, n) {
+    if &line[..n] == text {
         return w;
     }
     0
@@ -50,13 +50,14 @@ pub fn found(text: &[u8], h: u64, from: u32) -> u32
     requires { (h ≡ 0 → ⊥) × ((k : ℕ) → k < 256 → named_by text.now k ≡ bears h k) × (128 ≤ from) × (from ≤ 224) × ((k : ℕ) → 128 ≤ k → k < from → head_code k ≡ h → ⊥) × (from < 224 → head_code from ≡ h) }
     ensures { result ≡ word_in text.now }
 {
-    let mut op = from;
-    while op < 224 {
+    for op in from..224 {
+        if head_of(op) != h {
+            continue;
+        }
         let w = tried(text, op);
         if w != 0 {
             return w;
         }
-        op = next_named(h, op + 1);
     }
     0
 }

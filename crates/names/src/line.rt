@@ -1,7 +1,6 @@
 // A line in the making, in a buffer that is long enough for any: bytes put one behind the other, and where the next one comes.
 ghost use Rattle.std.specs.Prelude.{◌≡◌, [], ◌∷◌, ◌++◌, ◌+◌, ◌/◌, ◌%◌, ◌<◌, ◌≤◌, T, length, take, drop};
 ghost use Rattle.names.specs.Table.{documented, op_of, line_of};
-ghost use Rattle.names.specs.Calls.{eqs};
 ghost use Rattle.names.specs.Inner.Code.{last_of, unpacked, piece_at};
 
 use crate::show::text;
@@ -85,27 +84,5 @@ pub fn copy(out: &mut [u8], line: &[u8], n: usize)
     requires { (n ≤ length line.now) × (n ≤ length out.old) }
     ensures { out.new ≡ take n line.now ++ drop n out.old }
 {
-    let mut i = 0;
-    while i < n {
-        out[i] = line[i];
-        i += 1;
-    }
-}
-
-// Is the text these n bytes?
-pub fn same(text: &[u8], line: &[u8], n: usize) -> bool
-    requires { n ≤ length line.now }
-    ensures { result ≡ eqs (take n line.now) text.now }
-{
-    if text.len() != n {
-        return false;
-    }
-    let mut i = 0;
-    while i < n {
-        if text[i] != line[i] {
-            return false;
-        }
-        i += 1;
-    }
-    true
+    out[..n].copy_from_slice(&line[..n]);
 }

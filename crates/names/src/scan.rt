@@ -9,12 +9,10 @@ use crate::pack::behind;
 pub fn one_feed(text: &[u8]) -> bool
     ensures { result ≡ one_feed text.now }
 {
-    let mut i = 0;
-    while i < text.len() {
-        if text[i] == 10 {
+    for (i, &b) in text.iter().enumerate() {
+        if b == 10 {
             return i + 1 == text.len();
         }
-        i += 1;
     }
     false
 }
@@ -24,18 +22,15 @@ pub fn next(text: &[u8], at: usize) -> usize
     requires { at ≤ length text.now }
     ensures { (result ≤ length text.now) × (split (drop result text.now) ≡ (get_or (split (drop at text.now)).1 0 [], drop 1 (split (drop at text.now)).1)) }
 {
-    let mut i = at;
-    while i < text.len() {
-        let b = text[i];
+    for (i, &b) in text[at..].iter().enumerate() {
         if b == 10 {
             return text.len();
         }
         if b == 32 {
-            return i + 1;
+            return at + i + 1;
         }
-        i += 1;
     }
-    i
+    text.len()
 }
 
 // How many texts come after spaces.
@@ -44,25 +39,13 @@ pub fn count(text: &[u8], at: usize) -> usize
     ensures { result ≡ length (split (drop at text.now)).1 }
 {
     let mut n: usize = 0;
-    let mut i = at;
-    while i < text.len() {
-        let b = text[i];
+    for &b in &text[at..] {
         if b == 10 {
             return n;
         }
-        n += one_if(b == 32);
-        i += 1;
+        n += usize::from(b == 32);
     }
     n
-}
-
-fn one_if(t: bool) -> usize
-    ensures { (result ≡ cond t 1 0) × (result ≤ 1) }
-{
-    if t {
-        return 1;
-    }
-    0
 }
 
 fn digit_value(c: u8) -> u32
@@ -88,9 +71,7 @@ pub fn digits(text: &[u8], at: usize, skip: usize, base: u32) -> u32
 {
     let mut n: u32 = 0;
     let mut k = skip;
-    let mut i = at;
-    while i < text.len() {
-        let b = text[i];
+    for &b in &text[at..] {
         if b == 10 {
             return n;
         }
@@ -98,8 +79,7 @@ pub fn digits(text: &[u8], at: usize, skip: usize, base: u32) -> u32
             return n;
         }
         n = step(n, k, base, b);
-        k = less(k);
-        i += 1;
+        k = k.saturating_sub(1);
     }
     n
 }
@@ -115,22 +95,10 @@ fn step(n: u32, k: usize, base: u32, b: u8) -> u32
     n
 }
 
-pub fn less(k: usize) -> usize
-    ensures { result ≡ k - 1 }
-{
-    if k == 0 {
-        return 0;
-    }
-    k - 1
-}
-
 pub fn byte_at(text: &[u8], at: usize) -> u8
     ensures { result ≡ get_or text.now at 0 }
 {
-    if at < text.len() {
-        return text[at];
-    }
-    0
+    text.get(at).copied().unwrap_or(0)
 }
 
 // The text's name, packed: 2, which is no text, where it has more than the seven bytes that fit, and so is no opcode's.
@@ -138,9 +106,7 @@ pub fn heading(text: &[u8]) -> u64
     ensures { ((op : ℕ) → op < 256 → named_by text.now op ≡ bears result op) × (result ≡ 0 → ⊥) }
 {
     let mut p: u64 = 1;
-    let mut i = 0;
-    while i < text.len() {
-        let b = text[i];
+    for (i, &b) in text.iter().enumerate() {
         if b == 10 {
             return p;
         }
@@ -151,7 +117,6 @@ pub fn heading(text: &[u8]) -> u64
             return 2;
         }
         p = behind(p, b);
-        i += 1;
     }
     p
 }

@@ -139,7 +139,7 @@ pub fn form_of(op: u32) -> u32
 }
 
 // The name up to a space in it.
-fn head_of(op: u32) -> u64
+pub fn head_of(op: u32) -> u64
     requires { op < 256 }
     ensures { result ≡ head_code op }
 {
@@ -162,12 +162,10 @@ pub fn next_named(h: u64, from: u32) -> u32
     requires { from ≤ 224 }
     ensures { (from ≤ result) × (result ≤ 224) × ((k : ℕ) → from ≤ k → k < result → head_code k ≡ h → ⊥) × (result < 224 → head_code result ≡ h) }
 {
-    let mut op = from;
-    while op < 224 {
+    for op in from..224 {
         if head_of(op) == h {
             return op;
         }
-        op += 1;
     }
-    op
+    224
 }

@@ -5,7 +5,7 @@ ghost use Rattle.names.specs.Inner.Scan.{split, present, gathered};
 ghost use Rattle.names.specs.Inner.Code.{taken_at, slot_at, listed};
 
 use crate::Place;
-use crate::scan::{byte_at, count, digits, less, next};
+use crate::scan::{byte_at, count, digits, next};
 
 fn signed_taken(text: &[u8], at: usize) -> u32
     requires { at ≤ length text.now }
@@ -20,10 +20,7 @@ fn signed_taken(text: &[u8], at: usize) -> u32
 fn away(n: u32) -> u32
     ensures { (result ≡ 2048 - n) × (result ≤ 2048) }
 {
-    if n < 2048 {
-        return 2048 - n;
-    }
-    0
+    2048u32.saturating_sub(n)
 }
 
 fn half_taken(text: &[u8], at: usize) -> u32
@@ -100,7 +97,7 @@ fn one_operand(text: &[u8], s: Place, o: u32, after: usize) -> Place
     Place {
         word: w + v,
         at: p,
-        left: less(left),
+        left: left.saturating_sub(1),
     }
 }
 

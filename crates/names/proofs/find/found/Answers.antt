@@ -1,27 +1,29 @@
 -- `names::find::found` meets its contract: no opcode so far has this line.
-use mathlib.Core.Path.{◌∙◌, sym}
+use mathlib.Core.Path.{◌≡◌, ◌∙◌, sym}
+use Prim.Native.Nat.{ℕ, ◌≤◌}
 use native.Mathlib.Omega.{arith}
+use borrow.Author.Count.{below_more}
+use Rattle.names.specs.Inner.Code.{tried_at}
 use Rattle.names.proofs.Heads.{bears_known}
-use Rattle.names.proofs.Reading.{refuses, tried_found, tried_none, passed_over, go_on}
+use Rattle.names.proofs.Reading.{refuses, tried_found, tried_none, passed_over}
 use Rattle.names.proofs.find.found.Goals as goal
 
 pub loop-op-init : goal.loop-op-init
-loop-op-init c = let p = c.requires in (p.2, p.3, (λ k g m. passed_over c.args.text.now c.args.h p.1 k (omega arith) (p.4 k g m)), p.5)
+loop-op-init c = let p = c.requires in λ k m g. passed_over c.args.text.now c.args.h p.1 k (omega arith) (p.4 k g m)
 
 pub tried-w-requires : goal.tried-w-requires
-tried-w-requires c = (omega arith, omega arith, bears_known c.args.h c.loop-op.op c.requires.0 (c.loop-op.invariant.3 (omega arith)))
+tried-w-requires c = (omega arith, omega arith, bears_known c.args.h c.loop-op.op c.requires.0 (sym c.head_of.ensures ∙ c.if-head_of-h.false))
 
 pub returns-then-w-ne0 : goal.returns-then-w-ne0
 returns-then-w-ne0 c = tried_found c.args.text.now c.loop-op.op (omega arith) c.tried-w.result c.tried-w.ensures (omega arith) c.if-w-ne0.true
 
+pub loop-op-preserved-then-head_of-h : goal.loop-op-preserved-then-head_of-h
+loop-op-preserved-then-head_of-h c =
+    let t = c.args.text.now in let op = c.loop-op.op in
+    below_more (λ (k : ℕ). 128 ≤ k → tried_at k t ≡ 0) op c.loop-op.invariant (λ g. passed_over t c.args.h c.requires.1 op (omega arith) (λ e. c.if-head_of-h.true (c.head_of.ensures ∙ e)))
+
 pub loop-op-preserved : goal.loop-op-preserved
-loop-op-preserved c =
-    let n = c.next_named-op.ensures in (
-      omega (arith, n.0),
-      n.1,
-      go_on c.args.text.now c.args.h c.requires.1 c.loop-op.op c.next_named-op.result n.1 c.loop-op.invariant.2 (sym c.tried-w.ensures ∙ c.if-w-ne0.false) n.2,
-      n.3,
-    )
+loop-op-preserved c = below_more (λ (k : ℕ). 128 ≤ k → tried_at k c.args.text.now ≡ 0) c.loop-op.op c.loop-op.invariant (λ g. sym c.tried-w.ensures ∙ c.if-w-ne0.false)
 
 pub returns : goal.returns
-returns c = refuses c.args.text.now (λ op g m. tried_none c.args.text.now op g m (c.loop-op.invariant.2 op g (omega arith)))
+returns c = refuses c.args.text.now (λ op g m. tried_none c.args.text.now op g m (c.loop-op.invariant op (omega arith) g))

@@ -1,30 +1,43 @@
 -- `names::scan::digits` meets its contract: the digits so far, and those left.
-use mathlib.Core.Path.{refl, ap, ◌∙◌, sym}
+use mathlib.Core.Path.{ap, ◌∙◌, sym}
 use mathlib.Core.List.{List}
-use Prim.Native.Nat.{ℕ, ◌+◌, ◌-◌}
+use mathlib.Core.Bool.{cond}
+use Prim.Native.Nat.{ℕ, ◌+◌, ◌*◌, ◌-◌, ◌%◌}
+use lib.Dec.{eqb}
+use lib.ListN.{get_or}
+use Rattle.names.specs.Inner.Scan.{digit_of}
+use native.Mathlib.Nat.{add-zero}
 use native.Mathlib.Omega.{arith}
-use Rattle.names.proofs.Scans.{at_feed, at_space, split_end, Digits, digits_stop, digits_on}
+use Rattle.names.proofs.Scans.{at_feed, at_space, split_end, Digits, digits_stop, digits_on, left_at}
 use Rattle.names.proofs.scan.digits.Goals as goal
 
-pub loop-i-init : goal.loop-i-init
-loop-i-init c = (omega arith, omega arith, refl)
+pub loop-b-init : goal.loop-b-init
+loop-b-init c = (omega arith, ap (Digits c.args.base 0 c.args.skip c.args.text.now) (add-zero c.args.at))
 
 pub returns-then-b-eq10 : goal.returns-then-b-eq10
-returns-then-b-eq10 c = (sym (digits_stop c.args.base c.loop-i.n c.loop-i.k c.args.text.now c.loop-i.i (ap (λ (r : List ℕ × List (List ℕ)). r.0) (at_feed c.args.text.now c.loop-i.i (omega arith) c.if-b-eq10.true))) ∙ c.loop-i.invariant.2, omega arith)
+returns-then-b-eq10 c =
+    let t = c.args.text.now in let i = c.loop-b.b-index in let at = c.args.at in
+    let e = at_feed t (at + i) (omega arith) (sym (left_at t at i) ∙ c.if-b-eq10.true) in
+    (sym (digits_stop c.args.base c.loop-b.n c.loop-b.k t (at + i) (ap (λ (r : List ℕ × List (List ℕ)). r.0) e)) ∙ c.loop-b.invariant.1, omega arith)
 
 pub returns-then-b-eq32 : goal.returns-then-b-eq32
-returns-then-b-eq32 c = (sym (digits_stop c.args.base c.loop-i.n c.loop-i.k c.args.text.now c.loop-i.i (ap (λ (r : List ℕ × List (List ℕ)). r.0) (at_space c.args.text.now c.loop-i.i (omega arith) c.if-b-eq32.true))) ∙ c.loop-i.invariant.2, omega arith)
+returns-then-b-eq32 c =
+    let t = c.args.text.now in let i = c.loop-b.b-index in let at = c.args.at in
+    let e = at_space t (at + i) (omega arith) (sym (left_at t at i) ∙ c.if-b-eq32.true) in
+    (sym (digits_stop c.args.base c.loop-b.n c.loop-b.k t (at + i) (ap (λ (r : List ℕ × List (List ℕ)). r.0) e)) ∙ c.loop-b.invariant.1, omega arith)
 
-pub loop-i-preserved : goal.loop-i-preserved
-loop-i-preserved c =
-    let t = c.args.text.now in let i = c.loop-i.i in (
-      omega arith,
+pub loop-b-preserved : goal.loop-b-preserved
+loop-b-preserved c =
+    let t = c.args.text.now in let i = c.loop-b.b-index in let at = c.args.at in (
       c.step-n.ensures.1,
-      ap (λ (k : ℕ). Digits c.args.base c.step-n.result k t (i + 1)) c.less-k.ensures
-          ∙ ap (λ (n : ℕ). Digits c.args.base n (c.loop-i.k - 1) t (i + 1)) c.step-n.ensures.0
-          ∙ sym (digits_on c.args.base c.loop-i.n c.loop-i.k t i (omega arith) c.if-b-eq10.false c.if-b-eq32.false)
-          ∙ c.loop-i.invariant.2,
+      ap (λ (k : ℕ). Digits c.args.base c.step-n.result k t (at + (i + 1))) c.saturating_sub-k.ensures
+          ∙ ap (λ (n : ℕ). Digits c.args.base n (c.loop-b.k - 1) t (at + (i + 1))) (c.step-n.ensures.0 ∙ ap (λ (b : ℕ). cond (eqb c.loop-b.k 0) ((c.loop-b.n * c.args.base + digit_of b) % 65536) c.loop-b.n) (left_at t at i))
+          ∙ ap (Digits c.args.base (cond (eqb c.loop-b.k 0) ((c.loop-b.n * c.args.base + digit_of (get_or t (at + i) 0)) % 65536) c.loop-b.n) (c.loop-b.k - 1) t) {x = at + (i + 1)} {y = at + i + 1} (omega arith)
+          ∙ sym (digits_on c.args.base c.loop-b.n c.loop-b.k t (at + i) (omega arith) (λ q. c.if-b-eq10.false (left_at t at i ∙ q)) (λ q. c.if-b-eq32.false (left_at t at i ∙ q)))
+          ∙ c.loop-b.invariant.1,
     )
 
 pub returns : goal.returns
-returns c = (sym (digits_stop c.args.base c.loop-i.n c.loop-i.k c.args.text.now c.loop-i.i (ap (λ (r : List ℕ × List (List ℕ)). r.0) (split_end c.args.text.now c.loop-i.i (omega arith) (omega arith)))) ∙ c.loop-i.invariant.2, omega arith)
+returns c =
+    let e = split_end c.args.text.now (c.args.at + c.loop-b.b-index) (omega arith) (omega arith) in
+    (sym (digits_stop c.args.base c.loop-b.n c.loop-b.k c.args.text.now (c.args.at + c.loop-b.b-index) (ap (λ (r : List ℕ × List (List ℕ)). r.0) e)) ∙ c.loop-b.invariant.1, omega arith)

@@ -5,13 +5,13 @@ use Rattle.names.proofs.Scans.{feed_here, feed_on, feed_end}
 use Rattle.names.proofs.scan.one_feed.Goals as goal
 
 pub loop-i-init : goal.loop-i-init
-loop-i-init c = (omega arith, refl)
+loop-i-init c = refl
 
-pub returns-then-text-i-eq10 : goal.returns-then-text-i-eq10
-returns-then-text-i-eq10 c = sym (feed_here c.args.text.now c.loop-i.i (omega arith) c.if-text-i-eq10.true) ∙ c.loop-i.invariant.1
+pub returns-then-b-eq10 : goal.returns-then-b-eq10
+returns-then-b-eq10 c = sym (feed_here c.args.text.now c.loop-i.i (omega arith) c.if-b-eq10.true) ∙ c.loop-i.invariant
 
 pub loop-i-preserved : goal.loop-i-preserved
-loop-i-preserved c = (omega arith, sym (feed_on c.args.text.now c.loop-i.i (omega arith) c.if-text-i-eq10.false) ∙ c.loop-i.invariant.1)
+loop-i-preserved c = sym (feed_on c.args.text.now c.loop-i.i (omega arith) c.if-b-eq10.false) ∙ c.loop-i.invariant
 
 pub returns : goal.returns
-returns c = sym (feed_end c.args.text.now c.loop-i.i (omega arith) (omega arith)) ∙ c.loop-i.invariant.1
+returns c = sym (feed_end c.args.text.now c.loop-i.i (omega arith) (omega arith)) ∙ c.loop-i.invariant

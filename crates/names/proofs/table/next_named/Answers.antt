@@ -7,13 +7,13 @@ use Rattle.names.specs.Inner.Code.{head_code}
 use Rattle.names.proofs.table.next_named.Goals as goal
 
 pub loop-op-init : goal.loop-op-init
-loop-op-init c = (omega arith, omega arith, λ k l m e. omega arith)
+loop-op-init c = λ k l m e. omega arith
 
 pub returns-then-head_of-h : goal.returns-then-head_of-h
-returns-then-head_of-h c = (omega arith, omega arith, (λ k g m. c.loop-op.invariant.2 k m g), λ g. sym c.head_of.ensures ∙ c.if-head_of-h.true)
+returns-then-head_of-h c = (omega arith, omega arith, (λ k g m. c.loop-op.invariant k m g), λ g. sym c.head_of.ensures ∙ c.if-head_of-h.true)
 
 pub loop-op-preserved : goal.loop-op-preserved
-loop-op-preserved c = (omega arith, omega arith, below_more (λ (k : ℕ). c.args.from ≤ k → head_code k ≡ c.args.h → ⊥) c.loop-op.op c.loop-op.invariant.2 (λ m e. c.if-head_of-h.false (c.head_of.ensures ∙ e)))
+loop-op-preserved c = below_more (λ (k : ℕ). c.args.from ≤ k → head_code k ≡ c.args.h → ⊥) c.loop-op.op c.loop-op.invariant (λ m e. c.if-head_of-h.false (c.head_of.ensures ∙ e))
 
 pub returns : goal.returns
-returns c = (omega arith, omega arith, (λ k g m. c.loop-op.invariant.2 k m g), λ g. absurd (omega arith))
+returns c = (omega arith, omega arith, (λ k g m. c.loop-op.invariant k (omega arith) g), λ g. absurd (omega arith))

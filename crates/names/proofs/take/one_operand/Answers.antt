@@ -21,7 +21,7 @@ pub returns : goal.returns
 returns c =
     let n = c.next-p in let ts : List (List ℕ) = (split (drop c.args.s.at c.args.text.now)).1 in let us = split (drop n.result c.args.text.now) in (
       n.ensures.0,
-      one_less ts c.args.s.left c.less.result us n.ensures.1 c.requires.1 c.less.ensures,
+      one_less ts c.args.s.left c.saturating_sub.result us n.ensures.1 c.requires.1 c.saturating_sub.ensures,
       omega (arith, c.taken-v.ensures.1),
       λ os e. gather_on c.args.o os ts c.args.s.word c.taken-v.result us c.if-o-eq0.false
           (present_of (slot_at c.args.o).kind c.args.after c.args.s.left _ os ts e c.requires.1 (was_true (present (slot_at c.args.o).kind c.args.after c.args.s.left) c.absent.result c.absent.ensures c.if-absent.false))
