@@ -151,6 +151,7 @@ fn scatter(ds: &mut [u8; 8192], first: usize, step: usize, round: usize, bytes: 
     }
 }
 
+// By index, as in gather_pairs: cut in twos by `as_chunks` it would be no plainer, and the two would not read alike.
 fn scatter_pairs(ds: &mut [u8; 8192], first: usize, bytes: &[u8; 16])
     requires { (first < 8192) × (first % 2 ≡ 0) }
     ensures { ds.new ≡ stored ds.old (upto (paired first) 16) bytes.now }
