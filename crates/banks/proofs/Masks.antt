@@ -68,9 +68,11 @@ at_line c a h = omega (arith, above a h)
 kept : (x n : ℕ) → x < 2 ^ n → bit_and x (2 ^ n - 1) ≡ x
 kept x n h = and_mask x n ∙ mod-eq_of_lt h
 
--- the code's tables of shifts and masks give k
+-- the code's table of shifts and masks gives k
 pub turn_table : (c a : ℕ) → c < 4 → a < 8192
-    → bit_and (a / 2 ^ get_or (5 ∷ 5 ∷ 6 ∷ 7 ∷ []) c 0) (get_or (0x07 ∷ 0xff ∷ 0x7f ∷ 0x3f ∷ []) c 0) ≡ turn_of c a
+    → bit_and (a / 2 ^ (get_or {A = ℕ × ℕ} ((5, 0x07) ∷ (5, 0xff) ∷ (6, 0x7f) ∷ (7, 0x3f) ∷ []) c (0, 0)).0)
+    (get_or {A = ℕ × ℕ} ((5, 0x07) ∷ (5, 0xff) ∷ (6, 0x7f) ∷ (7, 0x3f) ∷ []) c (0, 0)).1
+    ≡ turn_of c a
 unfolding turn_of
 turn_table zero a h l = and_mask (a / 32) 3
 turn_table (suc zero) a h l = kept (a / 32) 8 (omega arith)

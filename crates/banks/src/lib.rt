@@ -9,12 +9,9 @@ ghost use Rattle.banks.specs.Inner.Access.{cells_of};
 
 use terms::Way;
 
-// k of document 01, by stride code: the address shifted to the right, then masked; of its thirteen bits only code 0's mask drops any. (Two arrays of four
-// bytes: each is put together by one store; one array of pairs takes one instruction more for each access. A code is a number below 4 and no type of its own: it is
-// two bits of a word, and the definitions go by numbers.)
-const SHIFT: [u8; 4] = [5, 5, 6, 7];
-
-const MASK: [u8; 4] = [0x07, 0xff, 0x7f, 0x3f];
+// k of document 01, by stride code: the address shifted to the right by the first number, then masked by the second; of its thirteen bits only
+// code 0's mask drops any. (A code is a number below 4 and no type of its own: it is two bits of a word, and the definitions go by numbers.)
+const TURNS: [(u8, u8); 4] = [(5, 0x07), (5, 0xff), (6, 0x7f), (7, 0x3f)];
 
 // What the low four bits of an address are moved on by.
 #[tactic(auto, using(crate::proofs::Masks::turn_table))]
@@ -22,7 +19,8 @@ fn turn(code: usize, addr: usize) -> usize
     requires { (code < 4) × (addr < 8192) }
     ensures { result ≡ turn_of code addr }
 {
-    addr >> SHIFT[code] & usize::from(MASK[code])
+    let (shift, mask) = TURNS[code];
+    addr >> shift & usize::from(mask)
 }
 
 #[tactic(auto, using(crate::proofs::Masks::turn_le), unfolding(crate::specs::Bank::bank_of))]

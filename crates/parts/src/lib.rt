@@ -172,24 +172,23 @@ pub fn part(
     if x.over {
         return x;
     }
-    let unfit = kept(x, End::Lengths);
     let Some(ds) = ds.as_mut_array() else {
-        return unfit;
+        return kept(x, End::Lengths);
     };
     let Some(a) = a.as_mut_array() else {
-        return unfit;
+        return kept(x, End::Lengths);
     };
     let Some(r) = r.as_mut_array() else {
-        return unfit;
+        return kept(x, End::Lengths);
     };
     let Some(c) = c.as_mut_array() else {
-        return unfit;
+        return kept(x, End::Lengths);
     };
     let Some(vc) = vc.as_mut_array() else {
-        return unfit;
+        return kept(x, End::Lengths);
     };
     let Some(v) = v.as_mut_array() else {
-        return unfit;
+        return kept(x, End::Lengths);
     };
     feed(x, bytes, ds, a, r, c, vc, v)
 }

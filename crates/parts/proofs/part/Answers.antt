@@ -18,32 +18,32 @@ feed-requires c =
 pub returns-in_default : goal.returns-in_default
 returns-in_default c =
     part_lengths c.args.run c.read-x.result c.read-x.ensures c.args.bytes.now _ c.if-x.false (as_it_was refl refl refl refl refl refl)
-    (λ h. c.in_default.ensures.cases h.ds) c.kept-unfit.ensures
+    (λ h. c.in_default.ensures.cases h.ds) c.kept.ensures
 
 pub returns-in_default-as_mut_array : goal.returns-in_default-as_mut_array
 returns-in_default-as_mut_array c =
     part_lengths c.args.run c.read-x.result c.read-x.ensures c.args.bytes.now _ c.if-x.false (as_it_was c.in-Some.ensures.cases.same refl refl refl refl refl)
-    (λ h. c.in_default-as_mut_array.ensures.cases h.a) c.kept-unfit.ensures
+    (λ h. c.in_default-as_mut_array.ensures.cases h.a) c.kept-in_default-as_mut_array.ensures
 
 pub returns-in_default-as_mut_array-2 : goal.returns-in_default-as_mut_array-2
 returns-in_default-as_mut_array-2 c =
     part_lengths c.args.run c.read-x.result c.read-x.ensures c.args.bytes.now _ c.if-x.false (as_it_was c.in-Some.ensures.cases.same c.in-Some-as_mut_array.ensures.cases.same refl refl refl refl)
-    (λ h. c.in_default-as_mut_array-2.ensures.cases h.r) c.kept-unfit.ensures
+    (λ h. c.in_default-as_mut_array-2.ensures.cases h.r) c.kept-in_default-as_mut_array-2.ensures
 
 pub returns-in_default-as_mut_array-3 : goal.returns-in_default-as_mut_array-3
 returns-in_default-as_mut_array-3 c =
     part_lengths c.args.run c.read-x.result c.read-x.ensures c.args.bytes.now _ c.if-x.false (as_it_was c.in-Some.ensures.cases.same c.in-Some-as_mut_array.ensures.cases.same c.in-Some-as_mut_array-2.ensures.cases.same refl refl refl)
-    (λ h. c.in_default-as_mut_array-3.ensures.cases h.c) c.kept-unfit.ensures
+    (λ h. c.in_default-as_mut_array-3.ensures.cases h.c) c.kept-in_default-as_mut_array-3.ensures
 
 pub returns-in_default-as_mut_array-4 : goal.returns-in_default-as_mut_array-4
 returns-in_default-as_mut_array-4 c =
     part_lengths c.args.run c.read-x.result c.read-x.ensures c.args.bytes.now _ c.if-x.false (as_it_was c.in-Some.ensures.cases.same c.in-Some-as_mut_array.ensures.cases.same c.in-Some-as_mut_array-2.ensures.cases.same c.in-Some-as_mut_array-3.ensures.cases.same refl refl)
-    (λ h. c.in_default-as_mut_array-4.ensures.cases h.vc) c.kept-unfit.ensures
+    (λ h. c.in_default-as_mut_array-4.ensures.cases h.vc) c.kept-in_default-as_mut_array-4.ensures
 
 pub returns-in_default-as_mut_array-5 : goal.returns-in_default-as_mut_array-5
 returns-in_default-as_mut_array-5 c =
     part_lengths c.args.run c.read-x.result c.read-x.ensures c.args.bytes.now _ c.if-x.false (as_it_was c.in-Some.ensures.cases.same c.in-Some-as_mut_array.ensures.cases.same c.in-Some-as_mut_array-2.ensures.cases.same c.in-Some-as_mut_array-3.ensures.cases.same c.in-Some-as_mut_array-4.ensures.cases.same refl)
-    (λ h. c.in_default-as_mut_array-5.ensures.cases h.v) c.kept-unfit.ensures
+    (λ h. c.in_default-as_mut_array-5.ensures.cases h.v) c.kept-in_default-as_mut_array-5.ensures
 
 pub returns : goal.returns
 returns c =
