@@ -19,14 +19,14 @@ pub use crate::table::form_of; // for who shows the fields that a line comes fro
 use crate::table::{name_of, next_named};
 use terms::{End, Refusal};
 
-// What writing hands back: why it stopped, and the line's length, 0 where nothing is written.
+// What writing hands back: why it stopped, and the line's length, 0 where nothing is written. No Result: C is told the length whatever the answer is.
 #[derive(Clone, Copy)]
 pub struct Written {
     pub end: End,
     pub length: u32,
 }
 
-// What reading hands back: why it stopped, and the word, 0 where none is read.
+// What reading hands back: why it stopped, and the word, 0 where none is read. No Result, for the same reason: C is told the word.
 #[derive(Clone, Copy)]
 pub struct Read {
     pub end: End,
@@ -44,10 +44,7 @@ pub struct Place {
 fn unwritten(end: End) -> Written
     ensures { result ≡ record { end = end; length = 0 } }
 {
-    Written {
-        end: end,
-        length: 0,
-    }
+    Written { end, length: 0 }
 }
 
 // The line of a word into the output, or why not: what stands behind the line stays.
@@ -76,7 +73,7 @@ pub fn write_line(word: u32, out: &mut [u8]) -> Written
 fn unread(end: End) -> Read
     ensures { result ≡ record { end = end; word = 0 } }
 {
-    Read { end: end, word: 0 }
+    Read { end, word: 0 }
 }
 
 // The word of a line, in its normal form, or why there is none.

@@ -76,7 +76,7 @@ pub fn spelt(l: &mut [u8], w: u32) -> usize
     let op = w / 16777216;
     let n = put(l, 0, name_of(op));
     let m = put_texts(l, n, form_of(op), w);
-    push(l, m, 10)
+    push(l, m, b'\n')
 }
 
 // The first n bytes go into the output; the rest of it stays.

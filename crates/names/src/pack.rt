@@ -8,7 +8,7 @@ pub fn behind(p: u64, b: u8) -> u64
     requires { p < 2 ^ 56 }
     ensures { (result ≡ p * 256 + b) × (b < 256) }
 {
-    p * 256 + b as u64
+    p * 256 + u64::from(b)
 }
 
 fn digit_of(d: u32) -> u64
@@ -16,9 +16,9 @@ fn digit_of(d: u32) -> u64
     ensures { (result ≡ digit d) × (result < 256) }
 {
     if d < 10 {
-        return (48 + d) as u64;
+        return u64::from(48 + d);
     }
-    (87 + d) as u64
+    u64::from(87 + d)
 }
 
 // p, and the last digit of m behind it; not so where m is 0, which would be a leading zero.

@@ -10,7 +10,7 @@ pub fn one_feed(text: &[u8]) -> bool
     ensures { result ≡ one_feed text.now }
 {
     for (i, &b) in text.iter().enumerate() {
-        if b == 10 {
+        if b == b'\n' {
             return i + 1 == text.len();
         }
     }
@@ -23,10 +23,10 @@ pub fn next(text: &[u8], at: usize) -> usize
     ensures { (result ≤ length text.now) × (split (drop result text.now) ≡ (get_or (split (drop at text.now)).1 0 [], drop 1 (split (drop at text.now)).1)) }
 {
     for (i, &b) in text[at..].iter().enumerate() {
-        if b == 10 {
+        if b == b'\n' {
             return text.len();
         }
-        if b == 32 {
+        if b == b' ' {
             return at + i + 1;
         }
     }
@@ -40,10 +40,10 @@ pub fn count(text: &[u8], at: usize) -> usize
 {
     let mut n: usize = 0;
     for &b in &text[at..] {
-        if b == 10 {
+        if b == b'\n' {
             return n;
         }
-        n += usize::from(b == 32);
+        n += usize::from(b == b' ');
     }
     n
 }
@@ -51,17 +51,9 @@ pub fn count(text: &[u8], at: usize) -> usize
 fn digit_value(c: u8) -> u32
     ensures { (result ≡ digit_of c) × (result < 256) }
 {
-    let d = c as u32;
-    if d < 48 {
-        return 0;
-    }
-    if d < 58 {
-        return d - 48;
-    }
-    if d < 87 {
-        return 0;
-    }
-    d - 87
+    // what is worth 0: `0` itself, and the byte that stands ten before `a`
+    let zero = if c < 58 { 48 } else { 87 };
+    u32::from(c.saturating_sub(zero))
 }
 
 // The digits of the text from a place on, without its first bytes.
@@ -72,10 +64,10 @@ pub fn digits(text: &[u8], at: usize, skip: usize, base: u32) -> u32
     let mut n: u32 = 0;
     let mut k = skip;
     for &b in &text[at..] {
-        if b == 10 {
+        if b == b'\n' {
             return n;
         }
-        if b == 32 {
+        if b == b' ' {
             return n;
         }
         n = step(n, k, base, b);
@@ -107,10 +99,10 @@ pub fn heading(text: &[u8]) -> u64
 {
     let mut p: u64 = 1;
     for (i, &b) in text.iter().enumerate() {
-        if b == 10 {
+        if b == b'\n' {
             return p;
         }
-        if b == 32 {
+        if b == b' ' {
             return p;
         }
         if 6 < i {

@@ -11,7 +11,7 @@ fn signed_taken(text: &[u8], at: usize) -> u32
     requires { at ≤ length text.now }
     ensures { (result ≡ taken_at 15 (split (drop at text.now)).0) × (result < 16777216) }
 {
-    if byte_at(text, at) == 45 {
+    if byte_at(text, at) == b'-' {
         return away(digits(text, at, 3, 16)) % 2048 * 8;
     }
     digits(text, at, 2, 16) % 2048 * 8
@@ -27,7 +27,7 @@ fn half_taken(text: &[u8], at: usize) -> u32
     requires { at ≤ length text.now }
     ensures { (result ≡ taken_at 19 (split (drop at text.now)).0) × (result < 16777216) }
 {
-    if byte_at(text, at) == 104 {
+    if byte_at(text, at) == b'h' {
         return 8;
     }
     0
@@ -88,8 +88,7 @@ fn one_operand(text: &[u8], s: Place, o: u32, after: usize) -> Place
     if absent(o, after, left) {
         return Place {
             word: w + 7,
-            at: at,
-            left: left,
+            ..s
         };
     }
     let p = next(text, at);
@@ -104,10 +103,7 @@ fn one_operand(text: &[u8], s: Place, o: u32, after: usize) -> Place
 fn some(o: u32) -> usize
     ensures { (result ≡ cond (eqb o 0) 0 1) × (result ≤ 1) }
 {
-    if o == 0 {
-        return 0;
-    }
-    1
+    usize::from(o != 0)
 }
 
 // The five places of a form, gathered from the texts after a place.
@@ -126,7 +122,7 @@ pub fn gather_all(text: &[u8], at: usize, f: u32, w: u32) -> u32
     let n = count(text, at);
     let s0 = Place {
         word: w,
-        at: at,
+        at,
         left: n,
     };
     let s1 = one_operand(text, s0, f % 32, n1);
