@@ -63,6 +63,9 @@ module _ (t : List ℕ) where
       self 24 8 op (gathered (operands_at op) (operand_texts op t)) h
       (gathered_zero (operands_at op) (operand_texts op t) (row_fines op h) (row_disjoint op h) 24 8 (row_free op h))
 
+  pub candidate_some : (op : ℕ) → 128 ≤ op → op < 256 → candidate op t ≡ 0 → ⊥
+  candidate_some op l h e = let o : op_of 0 ≡ op = ap (λ (x : ℕ). op_of x) (sym e) ∙ candidate_op op h in omega (arith, l, o)
+
   pub candidate_known : (op : ℕ) → op < 256 → T (documented op) → T (documented (op_of (candidate op t)))
   candidate_known op h d = rw (candidate_op op h) d
 
@@ -134,8 +137,7 @@ module _ (t : List ℕ) where
   unfolding tried_at
   tried_none op l m q d e =
       let r : candidate op t ≡ 0 = sym (rw (T_true (documented op) d, T_true (eqs (line_of (candidate op t)) t) (rw e (eqs_refl t))) refl) ∙ q in
-      let o : op_of 0 ≡ op = ap (λ (x : ℕ). op_of x) (sym r) ∙ candidate_op op (omega arith) in
-      omega (arith, l, o)
+      candidate_some op l (omega arith) r
 
   -- no opcode of another name is written so
   pub passed_over : (h : ℕ) → ((k : ℕ) → k < 256 → named_by t k ≡ bears h k) → (op : ℕ) → op < 256 → (head_code op ≡ h → ⊥) → tried_at op t ≡ 0

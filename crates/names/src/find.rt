@@ -1,10 +1,10 @@
 // The word that a text is the line of: an opcode of the text's name, the fields that the texts after it would be, and then the line of that word compared
 // with the text. So only what is a line is taken, whatever the text is.
-ghost use Rattle.std.specs.Prelude.{◌≡◌, ℕ, ◌<◌, ◌≤◌, length, drop, T};
+ghost use Rattle.std.specs.Prelude.{◌≡◌, ℕ, ◌<◌, ◌≤◌, length, drop, T, MatchOption};
 ghost use Rattle.names.specs.Table.{documented};
 ghost use Rattle.names.specs.Calls.{named_by};
 ghost use Rattle.names.specs.Inner.Scan.{split, operand_texts, candidate};
-ghost use Rattle.names.specs.Inner.Code.{head_code, bears, tried_at, word_in};
+ghost use Rattle.names.specs.Inner.Code.{bears, tried_at, word_in, NoneNamed};
 
 use crate::line::spelt;
 use crate::scan::next;
@@ -31,33 +31,32 @@ fn candidate(text: &[u8], op: u32) -> u32
     gather_all(text, at, form_of(op), op * 16777216)
 }
 
-// That word, if the text is its line, else 0.
-fn tried(text: &[u8], op: u32) -> u32
+// That word, if the text is its line.
+fn tried(text: &[u8], op: u32) -> Option<u32>
     requires { (128 ≤ op) × (op < 224) × T (documented op) }
-    ensures { result ≡ tried_at op text.now }
+    ensures { MatchOption result (tried_at op text.now ≡ 0) (λ w. (w ≡ tried_at op text.now) × (w ≡ 0 → ⊥)) }
 {
     let w = candidate(text, op);
     let mut line = [0u8; 64];
     let n = spelt(&mut line, w);
     if &line[..n] == text {
-        return w;
+        return Some(w);
     }
-    0
+    None
 }
 
-// The word that the text is read as, or 0; h is its name, and the first opcode of this name is given.
-pub fn found(text: &[u8], h: u64, from: u32) -> u32
-    requires { (h ≡ 0 → ⊥) × ((k : ℕ) → k < 256 → named_by text.now k ≡ bears h k) × (128 ≤ from) × (from ≤ 224) × ((k : ℕ) → 128 ≤ k → k < from → head_code k ≡ h → ⊥) × (from < 224 → head_code from ≡ h) }
-    ensures { result ≡ word_in text.now }
+// The word that the text is read as; h is its name, and the first opcode of this name is given.
+pub fn found(text: &[u8], h: u64, from: u32) -> Option<u32>
+    requires { (h ≡ 0 → ⊥) × ((k : ℕ) → k < 256 → named_by text.now k ≡ bears h k) × (128 ≤ from) × (from ≤ 224) × NoneNamed h from }
+    ensures { MatchOption result (word_in text.now ≡ 0) (λ w. (w ≡ word_in text.now) × (w ≡ 0 → ⊥)) }
 {
     for op in from..224 {
         if head_of(op) != h {
             continue;
         }
-        let w = tried(text, op);
-        if w != 0 {
-            return w;
+        if let Some(w) = tried(text, op) {
+            return Some(w);
         }
     }
-    0
+    None
 }

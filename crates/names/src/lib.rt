@@ -16,7 +16,7 @@ use crate::find::found;
 use crate::line::{copy, spelt};
 use crate::scan::{heading, one_feed};
 pub use crate::table::form_of; // for who shows the fields that a line comes from
-use crate::table::{name_of, next_named};
+use crate::table::{first_named, name_of};
 use terms::{End, Refusal};
 
 // What writing hands back: why it stopped, and the line's length, 0 where nothing is written. No Result: C is told the length whatever the answer is.
@@ -84,14 +84,12 @@ pub fn read_line(text: &[u8]) -> Read
         return unread(End::Unended);
     }
     let h = heading(text);
-    let op = next_named(h, 0x80);
-    if op == 224 {
+    let Some(op) = first_named(h) else {
         return unread(End::Unnamed);
-    }
-    let w = found(text, h, op);
-    if w == 0 {
+    };
+    let Some(w) = found(text, h, op) else {
         return unread(End::Amiss);
-    }
+    };
     Read {
         end: End::Done,
         word: w,

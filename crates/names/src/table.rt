@@ -1,6 +1,6 @@
 // The table: for each opcode its name, packed, and its operands: their numbers in base 32, the first operand's lowest, 0 where there is none.
-ghost use Rattle.std.specs.Prelude.{◌≡◌, ℕ, ◌/◌, ◌%◌, ◌<◌, ◌≤◌, eqb};
-ghost use Rattle.names.specs.Inner.Code.{name_code, form_code, head_code};
+ghost use Rattle.std.specs.Prelude.{◌≡◌, ◌/◌, ◌%◌, ◌<◌, ◌≤◌, eqb, MatchOption};
+ghost use Rattle.names.specs.Inner.Code.{name_code, form_code, head_code, NoneNamed};
 
 // The name of an opcode, 0 where it has none.
 pub fn name_of(op: u32) -> u64
@@ -157,15 +157,14 @@ pub fn spaced(n: u64) -> bool
     n / 256 % 256 == 32
 }
 
-// The first opcode of a name, from one on; 224 where there is none.
-pub fn next_named(h: u64, from: u32) -> u32
-    requires { from ≤ 224 }
-    ensures { (from ≤ result) × (result ≤ 224) × ((k : ℕ) → from ≤ k → k < result → head_code k ≡ h → ⊥) × (result < 224 → head_code result ≡ h) }
+// The first opcode of a name.
+pub fn first_named(h: u64) -> Option<u32>
+    ensures { MatchOption result (NoneNamed h 224) (λ op. (128 ≤ op) × (op < 224) × NoneNamed h op × (head_code op ≡ h)) }
 {
-    for op in from..224 {
+    for op in 128..224 {
         if head_of(op) == h {
-            return op;
+            return Some(op);
         }
     }
-    224
+    None
 }

@@ -1,5 +1,5 @@
 -- What the code's own values stand for.
-use Rattle.std.specs.Prelude.{ℕ, zero, suc, ◌+◌, ◌*◌, ◌/◌, ◌%◌, ◌^◌, Bool, cond, ◌&&◌, List, [], ◌∷◌, ◌++◌, ltb, eqb, drop, get_or}
+use Rattle.std.specs.Prelude.{ℕ, zero, suc, ◌+◌, ◌*◌, ◌/◌, ◌%◌, ◌^◌, ◌<◌, ◌≤◌, ◌≡◌, Bool, cond, ◌&&◌, List, [], ◌∷◌, ◌++◌, ltb, eqb, drop, get_or}
 use Rattle.names.specs.Inner.Scan.{meant, candidate}
 use Rattle.names.specs.Line.{digit, Kind, number, flags, signed, lohi, allvc, Operand, shown, text_of, value_of}
 use Rattle.names.specs.Calls.{eqs, up_to, some, first, written_as}
@@ -85,6 +85,10 @@ head_code op = cond (documented op) (packed 1 (up_to (name_at op))) 0
 -- a packed name is that of an opcode
 unfoldable pub bears : ℕ → ℕ → Bool
 bears h op = eqb (head_code op) h
+
+-- no opcode below n has this name
+abbrev pub NoneNamed : ℕ → ℕ → Type 0
+NoneNamed h n = (k : ℕ) → 128 ≤ k → k < n → head_code k ≡ h → ⊥
 
 -- the candidate of an opcode, if the text is its line, else 0
 unfoldable pub tried_at : ℕ → List ℕ → ℕ

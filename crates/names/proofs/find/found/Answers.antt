@@ -11,11 +11,11 @@ use Rattle.names.proofs.find.found.Goals as goal
 pub loop-op-init : goal.loop-op-init
 loop-op-init c = let p = c.requires in λ k m g. passed_over c.args.text.now c.args.h p.1 k (omega arith) (p.4 k g m)
 
-pub tried-w-requires : goal.tried-w-requires
-tried-w-requires c = (omega arith, omega arith, bears_known c.args.h c.loop-op.op c.requires.0 (sym c.head_of.ensures ∙ c.if-head_of-h.false))
+pub tried-requires : goal.tried-requires
+tried-requires c = (omega arith, omega arith, bears_known c.args.h c.loop-op.op c.requires.0 (sym c.head_of.ensures ∙ c.if-head_of-h.false))
 
-pub returns-then-w-ne0 : goal.returns-then-w-ne0
-returns-then-w-ne0 c = tried_found c.args.text.now c.loop-op.op (omega arith) c.tried-w.result c.tried-w.ensures (omega arith) c.if-w-ne0.true
+pub returns-in-Some : goal.returns-in-Some
+returns-in-Some c = let w = c.in-Some in (tried_found c.args.text.now c.loop-op.op (omega arith) w.w w.ensures.0 (omega arith) w.ensures.1, w.ensures.1)
 
 pub loop-op-preserved-then-head_of-h : goal.loop-op-preserved-then-head_of-h
 loop-op-preserved-then-head_of-h c =
@@ -23,7 +23,7 @@ loop-op-preserved-then-head_of-h c =
     below_more (λ (k : ℕ). 128 ≤ k → tried_at k t ≡ 0) op c.loop-op.invariant (λ g. passed_over t c.args.h c.requires.1 op (omega arith) (λ e. c.if-head_of-h.true (c.head_of.ensures ∙ e)))
 
 pub loop-op-preserved : goal.loop-op-preserved
-loop-op-preserved c = below_more (λ (k : ℕ). 128 ≤ k → tried_at k c.args.text.now ≡ 0) c.loop-op.op c.loop-op.invariant (λ g. sym c.tried-w.ensures ∙ c.if-w-ne0.false)
+loop-op-preserved c = below_more (λ (k : ℕ). 128 ≤ k → tried_at k c.args.text.now ≡ 0) c.loop-op.op c.loop-op.invariant (λ g. c.in_default.ensures)
 
 pub returns : goal.returns
-returns c = refuses c.args.text.now (λ op g m. tried_none c.args.text.now op g m (c.loop-op.invariant op (omega arith) g))
+returns c = sym (refuses c.args.text.now (λ op g m. tried_none c.args.text.now op g m (c.loop-op.invariant op (omega arith) g)))
