@@ -61,6 +61,9 @@ pub flags_eleven : (o m n : ℕ) → o ≡ 11 → leb n m ≡ not (present (slot
 unfolding slot_at
 flags_eleven o m n e = rw e (le_not n m)
 
+pub flags_ten_eleven : (o m n : ℕ) → 10 ≤ o → o < 12 → leb n m ≡ not (present (slot_at o).kind m n)
+flags_ten_eleven o m n h l = elim (ℕ_discrete o 10) [ yes e ↦ flags_ten o m n e | no d ↦ flags_eleven o m n (omega arith) ]
+
 seven_more : (w g : ℕ) → w + (7 * 1 + g) ≡ w + 7 + g
 seven_more w g = omega arith
 

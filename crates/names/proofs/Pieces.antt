@@ -1,5 +1,9 @@
 -- The packed text of an operand, by its parts.
 use mathlib.Core.Path.{◌≡◌, refl}
+use mathlib.Core.Bool.{cond}
+use native.Mathlib.Omega.{arith}
+use native.Mathlib.Decide.{dec_lt}
+use lib.Dec.{ltb}
 use Prim.Native.Nat.{ℕ, ◌-◌, ◌/◌, ◌%◌, ◌<◌, ◌≤◌}
 use native.Mathlib.Nat.{div-one}
 use borrow.Author.Tests.{lt-ltb, le-ltb, ne_eqb}
@@ -8,21 +12,27 @@ use Rattle.names.specs.Table.{c, vc, imm, imm16, half}
 use Rattle.names.specs.Inner.Code.{packed, piece_of, piece_at}
 
 module _ (w : ℕ) where
-  pub c_shown : w % 8 < 4 → packed 0x01202463 (numeral 4 10 (w % 8)) ≡ packed 1 (piece_of c w)
+  c_shown : w % 8 < 4 → packed 0x01202463 (numeral 4 10 (w % 8)) ≡ packed 1 (piece_of c w)
   unfolding packed piece_of value_of
   c_shown h = rw (div-one w, lt-ltb (w % 8) 4 h, lt-ltb (w % 8) 4 h) refl
 
-  pub c_hidden : 4 ≤ w % 8 → 1 ≡ packed 1 (piece_of c w)
+  c_hidden : 4 ≤ w % 8 → 1 ≡ packed 1 (piece_of c w)
   unfolding packed piece_of value_of
   c_hidden h = rw (div-one w, le-ltb (w % 8) 4 h) refl
 
-  pub vc_shown : w % 8 < 4 → packed 0x0120247663 (numeral 4 10 (w % 8)) ≡ packed 1 (piece_of vc w)
+  vc_shown : w % 8 < 4 → packed 0x0120247663 (numeral 4 10 (w % 8)) ≡ packed 1 (piece_of vc w)
   unfolding packed piece_of value_of
   vc_shown h = rw (div-one w, lt-ltb (w % 8) 4 h, lt-ltb (w % 8) 4 h) refl
 
-  pub vc_hidden : 4 ≤ w % 8 → 1 ≡ packed 1 (piece_of vc w)
+  vc_hidden : 4 ≤ w % 8 → 1 ≡ packed 1 (piece_of vc w)
   unfolding packed piece_of value_of
   vc_hidden h = rw (div-one w, le-ltb (w % 8) 4 h) refl
+
+  pub c_piece : cond (ltb (w % 8) 4) (packed 0x01202463 (numeral 4 10 (w % 8))) 1 ≡ packed 1 (piece_of c w)
+  c_piece = elim (dec_lt (w % 8) 4) [ yes h ↦ rw (lt-ltb (w % 8) 4 h) (c_shown h) | no h ↦ let l : 4 ≤ w % 8 = omega arith in rw (le-ltb (w % 8) 4 l) (c_hidden l) ]
+
+  pub vc_piece : cond (ltb (w % 8) 4) (packed 0x0120247663 (numeral 4 10 (w % 8))) 1 ≡ packed 1 (piece_of vc w)
+  vc_piece = elim (dec_lt (w % 8) 4) [ yes h ↦ rw (lt-ltb (w % 8) 4 h) (vc_shown h) | no h ↦ let l : 4 ≤ w % 8 = omega arith in rw (le-ltb (w % 8) 4 l) (vc_hidden l) ]
 
   pub imm_up : w / 8 % 2048 < 1024 → packed 0x01203078 (numeral 4 16 (w / 8 % 2048)) ≡ packed 1 (piece_of imm w)
   unfolding packed piece_of value_of

@@ -2,7 +2,7 @@
 ghost use Rattle.std.specs.Prelude.{◌≡◌, ◌/◌, ◌%◌, ◌<◌, ◌≤◌, eqb, MatchOption};
 ghost use Rattle.names.specs.Inner.Code.{name_code, form_code, head_code, NoneNamed};
 
-// The name of an opcode, 0 where it has none.
+// The name of an opcode, 0 where it has none. No Option: each arm would be a Some, and all callers but one know that there is a name, or take 0 as it is.
 pub fn name_of(op: u32) -> u64
     requires { op < 256 }
     ensures { result ≡ name_code op }
@@ -71,7 +71,7 @@ pub fn name_of(op: u32) -> u64
     }
 }
 
-// The operands of an opcode, 0 where it has none.
+// The operands of an opcode, 0 where it has none. Numbers, and no enum, are what its contract promises (form_code), and what other crates read in it.
 pub fn form_of(op: u32) -> u32
     requires { op < 256 }
     ensures { result ≡ form_code op }

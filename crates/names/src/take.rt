@@ -33,7 +33,8 @@ fn half_taken(text: &[u8], at: usize) -> u32
     0
 }
 
-// The field of an operand that the text at a place would be, in its bits of the word.
+// The field of an operand that the text at a place would be, in its bits of the word. The operand goes by its number in the table's forms (form_of, whose
+// contract fixes these numbers).
 fn taken(o: u32, text: &[u8], at: usize) -> u32
     requires { at ≤ length text.now }
     ensures { (result ≡ taken_at o (split (drop at text.now)).0) × (result < 16777216) }
@@ -65,13 +66,10 @@ fn taken(o: u32, text: &[u8], at: usize) -> u32
 fn absent(o: u32, after: usize, left: usize) -> bool
     ensures { result ≡ not (present (slot_at o).kind after left) }
 {
-    if o == 10 {
-        return left <= after;
+    match o {
+        10 | 11 => left <= after,
+        _ => false,
     }
-    if o == 11 {
-        return left <= after;
-    }
-    false
 }
 
 // One operand of the form: 0 is none.
@@ -86,10 +84,7 @@ fn one_operand(text: &[u8], s: Place, o: u32, after: usize) -> Place
     let left = s.left;
     let w = s.word;
     if absent(o, after, left) {
-        return Place {
-            word: w + 7,
-            ..s
-        };
+        return Place { word: w + 7, ..s };
     }
     let p = next(text, at);
     let v = taken(o, text, p);

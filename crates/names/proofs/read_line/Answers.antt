@@ -1,6 +1,5 @@
 -- `names::read_line` meets its contract.
 use mathlib.Core.Path.{ap, ◌∙◌, sym}
-use native.Mathlib.Omega.{arith}
 use Rattle.names.specs.declared.Read.{Read}
 use Rattle.names.specs.Calls.{read}
 use Rattle.names.proofs.Heads.{known_none, known_some}

@@ -11,7 +11,7 @@ use Rattle.names.specs.Table.{half}
 use Rattle.names.specs.Inner.Code.{packed, piece_of, piece_at, slots, slot_at}
 use Rattle.names.proofs.Tests.{below}
 use Rattle.words.proofs.Law.{Rest, keyed, unkeyed}
-use Rattle.names.proofs.Pieces.{arm, imm16_piece}
+use Rattle.names.proofs.Pieces.{arm, c_piece, vc_piece, imm16_piece}
 use Rattle.names.proofs.show.text.Goals as goal
 
 -- the arms' numbers, the last arm's first
@@ -71,11 +71,11 @@ returns-in-9 c = arm c.args.w 9 c.args.o c.in-9.is c.decimal-in-9.ensures
 
 pub returns-in-10 : goal.returns-in-10
 unfolding packed piece_at slot_at piece_of value_of
-returns-in-10 c = arm c.args.w 10 c.args.o c.in-10.is c.flags.ensures
+returns-in-10 c = arm c.args.w 10 c.args.o c.in-10.is (c.flags.ensures ∙ c_piece c.args.w)
 
 pub returns-in-11 : goal.returns-in-11
 unfolding packed piece_at slot_at piece_of value_of
-returns-in-11 c = arm c.args.w 11 c.args.o c.in-11.is c.vector_flags.ensures
+returns-in-11 c = arm c.args.w 11 c.args.o c.in-11.is (c.flags-in-11.ensures ∙ vc_piece c.args.w)
 
 pub returns-in-12 : goal.returns-in-12
 unfolding packed piece_at slot_at piece_of value_of
