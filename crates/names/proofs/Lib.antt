@@ -14,7 +14,6 @@ pub mod Pieces
 pub mod Operands
 pub mod Arms
 pub mod Lines
-pub mod Over
 pub mod Writing
 pub mod Scans
 pub mod Alike

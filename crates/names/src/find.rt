@@ -37,9 +37,7 @@ fn tried(text: &[u8], op: u32) -> Option<u32>
     ensures { MatchOption result (tried_at op text.now ≡ 0) (λ w. (w ≡ tried_at op text.now) × (w ≡ 0 → ⊥)) }
 {
     let w = candidate(text, op);
-    let mut line = [0u8; 64];
-    let n = spelt(&mut line, w);
-    if &line[..n] == text {
+    if spelt(w).bytes() == text {
         return Some(w);
     }
     None

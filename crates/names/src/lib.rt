@@ -13,7 +13,7 @@ ghost use Rattle.std.specs.Prelude.{◌≡◌};
 ghost use Rattle.names.specs.Calls.{written, write_of, read, read_of};
 
 use crate::find::found;
-use crate::line::{copy, spelt};
+use crate::line::spelt;
 use crate::scan::{heading, one_feed};
 pub use crate::table::form_of; // for who shows the fields that a line comes from
 use crate::table::{first_named, name_of};
@@ -58,12 +58,12 @@ pub fn write_line(word: u32, out: &mut [u8]) -> Written
     if name_of(op) == 0 {
         return unwritten(End::Refused(Refusal::Undocumented));
     }
-    let mut line = [0u8; 64];
-    let n = spelt(&mut line, word);
+    let line = spelt(word);
+    let n = line.bytes().len();
     if out.len() < n {
         return unwritten(End::Short);
     }
-    copy(out, &line, n);
+    out[..n].copy_from_slice(line.bytes());
     Written {
         end: End::Done,
         length: n as u32,
