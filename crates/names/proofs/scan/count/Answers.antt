@@ -2,16 +2,12 @@
 use mathlib.Core.Path.{◌≡◌, ap, ◌∙◌, sym}
 use Prim.Native.Nat.{ℕ, ◌+◌}
 use mathlib.Core.List.{List}
-use native.Mathlib.Nat.{add-zero}
 use native.Mathlib.Omega.{arith}
 use mir.Val.{bool_byte}
 use lib.Dec.{eqb}
 use lib.ListN.{length, get_or}
 use Rattle.names.proofs.Scans.{Rest, at_feed, split_end, count_on, one_at_most, left_at}
 use Rattle.names.proofs.scan.count.Goals as goal
-
-pub loop-b-init : goal.loop-b-init
-loop-b-init c = (omega arith, let e = ap (λ (i : ℕ). length (Rest c.args.text.now i)) (add-zero c.args.at) in omega (arith, e))
 
 pub returns-then-b-eq10 : goal.returns-then-b-eq10
 returns-then-b-eq10 c =

@@ -6,13 +6,9 @@ use Prim.Native.Nat.{ℕ, ◌+◌, ◌*◌, ◌-◌, ◌%◌}
 use lib.Dec.{eqb}
 use lib.ListN.{get_or}
 use Rattle.names.specs.Inner.Scan.{digit_of}
-use native.Mathlib.Nat.{add-zero}
 use native.Mathlib.Omega.{arith}
 use Rattle.names.proofs.Scans.{at_feed, at_space, split_end, Digits, digits_stop, digits_on, left_at}
 use Rattle.names.proofs.scan.digits.Goals as goal
-
-pub loop-b-init : goal.loop-b-init
-loop-b-init c = (omega arith, ap (Digits c.args.base 0 c.args.skip c.args.text.now) (add-zero c.args.at))
 
 pub returns-then-b-eq10 : goal.returns-then-b-eq10
 returns-then-b-eq10 c =

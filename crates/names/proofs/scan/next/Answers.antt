@@ -2,14 +2,10 @@
 use mathlib.Core.Path.{ap, ◌∙◌, sym}
 use Prim.Native.Nat.{ℕ, ◌+◌}
 use mathlib.Core.List.{List}
-use native.Mathlib.Nat.{add-zero}
 use native.Mathlib.Omega.{arith}
 use lib.ListN.{length}
 use Rattle.names.proofs.Scans.{Rest, at_feed, at_space, at_inner, split_end, next_end, next_space, left_at}
 use Rattle.names.proofs.scan.next.Goals as goal
-
-pub loop-i-init : goal.loop-i-init
-loop-i-init c = ap (Rest c.args.text.now) (add-zero c.args.at)
 
 pub returns-then-b-eq10 : goal.returns-then-b-eq10
 returns-then-b-eq10 c =

@@ -1,11 +1,8 @@
 -- `names::scan::one_feed` meets its contract: what is left of the text decides.
-use mathlib.Core.Path.{refl, ◌∙◌, sym}
+use mathlib.Core.Path.{◌∙◌, sym}
 use native.Mathlib.Omega.{arith}
 use Rattle.names.proofs.Scans.{feed_here, feed_on, feed_end}
 use Rattle.names.proofs.scan.one_feed.Goals as goal
-
-pub loop-i-init : goal.loop-i-init
-loop-i-init c = refl
 
 pub returns-then-b-eq10 : goal.returns-then-b-eq10
 returns-then-b-eq10 c = sym (feed_here c.args.text.now c.loop-i.i (omega arith) c.if-b-eq10.true) ∙ c.loop-i.invariant
