@@ -9,7 +9,7 @@ use native.Mathlib.Omega.{arith}
 use native.Mathlib.Decide.{ℕ_discrete}
 use borrow.Author.Tests.{eq-eqb, ne_eqb}
 use lib.Dec.{T, ltb, leb, eqb, eqb→eq, leb→le, ltb→lt, lt→ltb}
-use lib.ListN.{length, take, drop, get_or, length-append}
+use lib.ListN.{drop_of_length-le, length, take, drop, get_or, length-append}
 use lib.Seq.{take-suc, length-take-le}
 use Rattle.names.specs.Table.{row_at, rows, documented, name_at}
 use Rattle.names.specs.Calls.{eqs, up_to, some, named_by}
@@ -20,7 +20,7 @@ use Rattle.names.proofs.First.{some_passes, none_passes}
 use Rattle.names.proofs.Alike.{differ}
 use Rattle.names.proofs.Packed.{packed_append}
 use Rattle.names.proofs.Lines.{bytes, bytes_append, unpack, documented_range}
-use Rattle.names.proofs.Scans.{here, at_end}
+use Rattle.names.proofs.Scans.{here}
 use Rattle.names.proofs.Writing.{packed_le}
 
 -- ---- the code's number of a name's first part
@@ -150,9 +150,9 @@ module _ (t : List ℕ) (i : ℕ) (h : i < length t) (u : up_to t ≡ take i t +
   name_long m e f =
       head_long t (rw (name_more e f, length-append (take (i + 1) t) (up_to (drop (i + 1) t)), length-take-le (i + 1) t (omega arith)) (omega arith))
 
-pub stops_end : (t : List ℕ) (i : ℕ) → length t ≤ i → i ≤ length t → up_to (drop i t) ≡ []
+pub stops_end : (t : List ℕ) (i : ℕ) → length t ≤ i → up_to (drop i t) ≡ []
 unfolding up_to
-stops_end t i g h = ap up_to (at_end t i g h)
+stops_end t i g = ap up_to (drop_of_length-le t g)
 
 module _ (t : List ℕ) (i : ℕ) (h : i < length t) where
   pub stops_feed : get_or t i 0 ≡ 10 → up_to (drop i t) ≡ []

@@ -10,8 +10,8 @@ use native.Mathlib.Decide.{ℕ_discrete}
 use borrow.Author.Tests.{eq-eqb, ne_eqb}
 use mir.Val.{bool_byte}
 use lib.Dec.{eqb}
-use lib.ListN.{length, take, drop, get_or, length-drop}
-use lib.Seq.{drop-cons, drop-length, get_or-drop}
+use lib.ListN.{drop_of_length-le, length, take, drop, get_or, length-drop}
+use lib.Seq.{drop-cons, get_or-drop}
 use Rattle.std.proofs.lemmas.List.{take_rest}
 use Rattle.names.specs.Calls.{one_feed}
 use Rattle.names.specs.Inner.Scan.{split, digit_of, digits_of}
@@ -49,16 +49,13 @@ module _ (t : List ℕ) (i : ℕ) (h : i < length t) where
 pub left_at : (t : List ℕ) (at i : ℕ) → get_or (take (length t - at) (drop at t)) i 0 ≡ get_or t (at + i) 0
 left_at t at i = ap (λ (l : List ℕ). get_or l i 0) (take_rest t at) ∙ get_or-drop at t i 0
 
-pub at_end : (t : List ℕ) (i : ℕ) → length t ≤ i → i ≤ length t → drop i t ≡ []
-at_end t i g h = let e : i ≡ length t = omega arith in ap (λ (k : ℕ). drop k t) e ∙ drop-length t
-
-pub split_end : (t : List ℕ) (i : ℕ) → length t ≤ i → i ≤ length t → split (drop i t) ≡ ([], [])
+pub split_end : (t : List ℕ) (i : ℕ) → length t ≤ i → split (drop i t) ≡ ([], [])
 unfolding split
-split_end t i g h = rw (at_end t i g h) refl
+split_end t i g = rw (drop_of_length-le t g) refl
 
-pub feed_end : (t : List ℕ) (i : ℕ) → length t ≤ i → i ≤ length t → one_feed (drop i t) ≡ false
+pub feed_end : (t : List ℕ) (i : ℕ) → length t ≤ i → one_feed (drop i t) ≡ false
 unfolding one_feed
-feed_end t i g h = rw (at_end t i g h) refl
+feed_end t i g = rw (drop_of_length-le t g) refl
 
 abbrev pub Rest : List ℕ → ℕ → List (List ℕ)
 Rest t i = (split (drop i t)).1

@@ -27,5 +27,5 @@ loop-b-preserved c =
 
 pub returns : goal.returns
 returns c =
-    let e = ap (λ (r : List ℕ × List (List ℕ)). length r.1) (split_end c.args.text.now (c.args.at + c.loop-b.b-index) (omega arith) (omega arith)) in
+    let e = ap (λ (r : List ℕ × List (List ℕ)). length r.1) (split_end c.args.text.now (c.args.at + c.loop-b.b-index) (omega arith)) in
     omega (arith, c.loop-b.invariant.1)

@@ -35,5 +35,5 @@ loop-b-preserved c =
 
 pub returns : goal.returns
 returns c =
-    let e = split_end c.args.text.now (c.args.at + c.loop-b.b-index) (omega arith) (omega arith) in
+    let e = split_end c.args.text.now (c.args.at + c.loop-b.b-index) (omega arith) in
     (sym (digits_stop c.args.base c.loop-b.n c.loop-b.k c.args.text.now (c.args.at + c.loop-b.b-index) (ap (λ (r : List ℕ × List (List ℕ)). r.0) e)) ∙ c.loop-b.invariant.1, omega arith)

@@ -33,4 +33,4 @@ loop-i-preserved c =
     )
 
 pub returns : goal.returns
-returns c = let v = c.loop-i.invariant in (name_ends c.args.text.now c.loop-i.i c.loop-i.p (omega arith) v.0 v.1 v.2 v.3 (stops_end c.args.text.now c.loop-i.i (omega arith) (omega arith)), name_some c.args.text.now c.loop-i.i c.loop-i.p (omega arith) v.0 v.1 v.2 v.3)
+returns c = let v = c.loop-i.invariant in (name_ends c.args.text.now c.loop-i.i c.loop-i.p (omega arith) v.0 v.1 v.2 v.3 (stops_end c.args.text.now c.loop-i.i (omega arith)), name_some c.args.text.now c.loop-i.i c.loop-i.p (omega arith) v.0 v.1 v.2 v.3)

@@ -11,7 +11,7 @@ pub returns-then-b-eq10 : goal.returns-then-b-eq10
 returns-then-b-eq10 c =
     let t = c.args.text.now in let i = c.loop-i.i in let at = c.args.at in
     let e = at_feed t (at + i) (omega arith) (sym (left_at t at i) ∙ c.if-b-eq10.true) in
-    (omega arith, next_end t at (length t) (sym c.loop-i.invariant ∙ ap (λ (r : List ℕ × List (List ℕ)). r.1) e) (split_end t (length t) (omega arith) (omega arith)))
+    (omega arith, next_end t at (length t) (sym c.loop-i.invariant ∙ ap (λ (r : List ℕ × List (List ℕ)). r.1) e) (split_end t (length t) (omega arith)))
 
 pub returns-then-b-eq32 : goal.returns-then-b-eq32
 returns-then-b-eq32 c =
@@ -28,5 +28,5 @@ loop-i-preserved c =
 pub returns : goal.returns
 returns c =
     let t = c.args.text.now in let n = c.args.at + c.loop-i.i in
-    let e = split_end t n (omega arith) (omega arith) in
-    (omega arith, next_end t c.args.at (length t) (sym c.loop-i.invariant ∙ ap (λ (r : List ℕ × List (List ℕ)). r.1) e) (split_end t (length t) (omega arith) (omega arith)))
+    let e = split_end t n (omega arith) in
+    (omega arith, next_end t c.args.at (length t) (sym c.loop-i.invariant ∙ ap (λ (r : List ℕ × List (List ℕ)). r.1) e) (split_end t (length t) (omega arith)))

@@ -11,4 +11,4 @@ pub loop-i-preserved : goal.loop-i-preserved
 loop-i-preserved c = sym (feed_on c.args.text.now c.loop-i.i (omega arith) c.if-b-eq10.false) ∙ c.loop-i.invariant
 
 pub returns : goal.returns
-returns c = sym (feed_end c.args.text.now c.loop-i.i (omega arith) (omega arith)) ∙ c.loop-i.invariant
+returns c = sym (feed_end c.args.text.now c.loop-i.i (omega arith)) ∙ c.loop-i.invariant
