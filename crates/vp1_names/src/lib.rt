@@ -11,8 +11,7 @@ pub extern "C" fn vp1_write_line(word: u32, out: &mut [u8], length: &mut u32) ->
 {
     let x = names::write_line(word, out);
     *length = x.length;
-    let end = x.end;
-    u32::from(end)
+    u32::from(x.end)
 }
 
 // The word of a line. Whatever the answer, the word is written.
@@ -22,6 +21,5 @@ pub extern "C" fn vp1_read_line(text: &[u8], word: &mut u32) -> u32
 {
     let x = names::read_line(text);
     *word = x.word;
-    let end = x.end;
-    u32::from(end)
+    u32::from(x.end)
 }
