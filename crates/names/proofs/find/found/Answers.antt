@@ -22,8 +22,5 @@ loop-op-preserved-then-head_of-h c =
     let t = c.args.text.now in let op = c.loop-op.op in
     below_more (λ (k : ℕ). 128 ≤ k → tried_at k t ≡ 0) op c.loop-op.invariant (λ g. passed_over t c.args.h c.requires.1 op (omega arith) (λ e. c.if-head_of-h.true (c.head_of.ensures ∙ e)))
 
-pub loop-op-preserved : goal.loop-op-preserved
-loop-op-preserved c = below_more (λ (k : ℕ). 128 ≤ k → tried_at k c.args.text.now ≡ 0) c.loop-op.op c.loop-op.invariant (λ g. c.in_default.ensures)
-
 pub returns : goal.returns
 returns c = sym (refuses c.args.text.now (λ op g m. tried_none c.args.text.now op g m (c.loop-op.invariant op (omega arith) g)))
