@@ -34,13 +34,16 @@ pub fn triple(bytes: [u8; 12]) -> [u32; 3]
     [word(&bytes, 0), word(&bytes, 4), word(&bytes, 8)]
 }
 
-// The first n bytes, put down in twelve from `at` on.
+// The first n bytes, put down in twelve from `at` on. (By index: the compiler makes one copy of memory of it, and none of no bytes; `copy_from_slice` copies
+// those too, which a short part pays for.)
 fn put(to: [u8; 12], at: usize, bytes: &[u8], n: usize) -> [u8; 12]
     requires { (at + n ≤ 12) × (n ≤ length bytes.now) }
     ensures { result ≡ paste to at bytes.now n }
 {
     let mut out = to;
-    out[at..at + n].copy_from_slice(&bytes[..n]);
+    for i in 0..n {
+        out[at + i] = bytes[i];
+    }
     out
 }
 

@@ -118,6 +118,7 @@ fn closing(budget: u32, x: Ran, rest: &[u8]) -> Run
 }
 
 // Bytes for a run that is not over: the triple that they make whole, the triples after it, and what is left.
+#[inline(always)]
 fn feed(
     x: Run,
     bytes: &[u8],

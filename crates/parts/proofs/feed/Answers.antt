@@ -29,8 +29,7 @@ stream-all-requires c =
     let s : State = state c.args.ds.now c.args.a.now c.args.r.now c.args.c.now c.args.vc.now c.args.v.now in
     let t : State = state c.one-one.new.ds c.one-one.new.a c.one-one.new.r c.one-one.new.c c.one-one.new.vc c.one-one.new.v in
     let bs = c.args.bytes.now in
-    let rest : List ℕ = take (length bs - (12 - c.args.x.count)) (drop (12 - c.args.x.count) bs) in
-    (
+    let rest : List ℕ = take (length bs - (12 - c.args.x.count)) (drop (12 - c.args.x.count) bs) in (
       first_budgeted c.args.x c.requires bs c.twelve-first.ensures.1 s c.twelve-first.result rest c.if-bytes-need.false c.twelve-first.ensures.0 refl
           c.one-one.result t c.one-one.ensures,
       first_counted c.args.x c.requires bs c.twelve-first.ensures.1 s c.twelve-first.result rest c.if-bytes-need.false c.twelve-first.ensures.0 refl
