@@ -4,6 +4,8 @@ use mathlib.Core.Bool.{Bool, true, false, cond, ◌&&◌, true≢false}
 use mathlib.Core.List.{List}
 use Prim.Native.Nat.{ℕ, ◌+◌, ◌*◌, ◌/◌, ◌%◌, ◌≤◌, ◌<◌}
 use native.Mathlib.Omega.{arith}
+use native.Mathlib.Nat.{min-eq_left, min-eq_right, min-le_left, min-le_right}
+use Rattle.std.specs.Prelude.{min}
 use native.Mathlib.Decide.{dec_lt}
 use borrow.Author.Tests.{eqb-true, eq-eqb, ne_eqb, ltb-true, ltb-false, lt-ltb, le-ltb}
 use lib.Dec.{eqb, ltb}
@@ -16,7 +18,6 @@ use Rattle.model.specs.Run.{RunOutcome, triples, ended, run_from}
 use Rattle.model.proofs.Cells.{triple_within}
 use Rattle.model.proofs.Triples.{triples_at, triples_end}
 use Rattle.units.specs.Inner.Answers.{answer_outcome}
-use Rattle.machine.specs.Inner.Turns.{covered_by}
 use Rattle.terms.specs.Answers.{number}
 use Rattle.terms.specs.Inner.Runs.{end_of, counts_in, amount}
 use Rattle.terms.specs.Counts.{plus, Within}
@@ -53,35 +54,25 @@ module _ (b : ℕ) (ws : List ℕ) (i n : ℕ) (k : Counts) (s : State) where
       unfolding run_from
       halt j d = rw (triples_at ws i h, ne_eqb n b f, ← e, d) (stops j _ _)
 
-pub covered_le : (count b : ℕ) → covered_by count b ≤ 3 * b
-covered_le count b = go (ltb (count / 3) b) refl
-  where
-    go : (t : Bool) → ltb (count / 3) b ≡ t → cond t (3 * (count / 3)) (3 * b) ≤ 3 * b
-    go true e = let l = ltb-true (count / 3) b e in omega arith
-    go false e = omega arith
+-- what the budget covers, so many triples: within it a whole triple is left and the budget is not spent; at its end all is done, or the budget is spent
+module _ (ws : List ℕ) (b most i n : ℕ) (till : most ≡ min (length ws / 3) b) (at : i ≡ n * 3) where
+  pub inside : n < most → (i + 2 < length ws) × (n < b)
+  inside h =
+      let x : most ≤ length ws / 3 = rw till (min-le_left (length ws / 3) b) in
+      let y : most ≤ b = rw till (min-le_right (length ws / 3) b) in
+      (omega (arith, x), omega (arith, y))
 
--- what the budget covers: within it a whole triple is left and the budget is not spent; at its end all is done, or the budget is spent
-module _ (ws : List ℕ) (b i n : ℕ) (at : i ≡ n * 3) where
-  pub inside : i < covered_by (length ws) b → (i + 2 < length ws) × (n < b) × (i + 3 ≤ covered_by (length ws) b)
-  inside = go (ltb (length ws / 3) b) refl
+  pub outside : (k : Counts) (s : State) → length ws % 3 ≡ 0 → n ≡ most
+      → ended (number (cond (ltb most (length ws / 3)) E.Spent E.Done)) n k s ≡ run_from b (triples (drop i ws)) n k s
+  outside k s whole e = elim (dec_lt most (length ws / 3)) [ yes l ↦ short l | no l ↦ all (omega (arith, l)) ]
     where
-      go : (t : Bool) → ltb (length ws / 3) b ≡ t → i < cond t (3 * (length ws / 3)) (3 * b)
-          → (i + 2 < length ws) × (n < b) × (i + 3 ≤ cond t (3 * (length ws / 3)) (3 * b))
-      go true e h = let l = ltb-true (length ws / 3) b e in (omega arith, omega arith, omega arith)
-      go false e h = let l = ltb-false (length ws / 3) b e in (omega arith, omega arith, omega arith)
+      short : most < length ws / 3 → ended (number (cond (ltb most (length ws / 3)) E.Spent E.Done)) n k s ≡ run_from b (triples (drop i ws)) n k s
+      short l =
+          let f : most ≡ b = elim (dec_lt b (length ws / 3)) [ yes u ↦ till ∙ min-eq_right (omega (arith, u)) | no u ↦ absurd (omega (arith, l, till ∙ min-eq_left (omega (arith, u)))) ] in
+          rw (lt-ltb most (length ws / 3) l) (sym (spent b ws i n k s (omega (arith, l)) (e ∙ f)))
 
-  pub outside : (k : Counts) (s : State) → length ws % 3 ≡ 0 → i ≡ covered_by (length ws) b
-      → ended (number (cond (ltb i (length ws)) E.Spent E.Done)) n k s ≡ run_from b (triples (drop i ws)) n k s
-  outside k s whole = go (ltb (length ws / 3) b) refl
-    where
-      go : (t : Bool) → ltb (length ws / 3) b ≡ t → i ≡ cond t (3 * (length ws / 3)) (3 * b)
-          → ended (number (cond (ltb i (length ws)) E.Spent E.Done)) n k s ≡ run_from b (triples (drop i ws)) n k s
-      go true e h = let l : length ws ≤ i = omega arith in rw (le-ltb i (length ws) l) (sym (done b ws i n k s l))
-      go false e h =
-          elim (dec_lt i (length ws)) [
-            | yes l ↦ rw (lt-ltb i (length ws) l) (sym (spent b ws i n k s (omega arith) (omega arith)))
-            | no l ↦ let m : length ws ≤ i = omega arith in rw (le-ltb i (length ws) m) (sym (done b ws i n k s m))
-          ]
+      all : length ws / 3 ≤ most → ended (number (cond (ltb most (length ws / 3)) E.Spent E.Done)) n k s ≡ run_from b (triples (drop i ws)) n k s
+      all l = rw (le-ltb most (length ws / 3) l) (sym (done b ws i n k s (omega (arith, l, e))))
 
 -- a triple counts no more than one step may
 pub cheap : (x : Result Counted Refusal) (t : State) (w side mask : ℕ) (s : State) → answer_outcome x t ≡ triple_of w side mask s → (m : Counted) → x ≡ Ok m → Within 1 (amount m)

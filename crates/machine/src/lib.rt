@@ -1,13 +1,13 @@
 // The machine on the six lent pieces: the list call, and the single call, which is a list of one triple.
 #![tactic(auto)]
 
-ghost use Rattle.std.specs.Prelude.{◌≡◌, cond, ◌%◌, ltb, length};
+ghost use Rattle.std.specs.Prelude.{◌≡◌, cond, ◌%◌, min, ltb, length};
 ghost use Rattle.pieces.specs.State.{state};
 ghost use Rattle.model.specs.Step.{step_of};
 ghost use Rattle.model.specs.Run.{triples, run_from, run_of};
 ghost use Rattle.terms.specs.Counts.{none};
 ghost use Rattle.machine.specs.Answers.{step_outcome, run_outcome};
-ghost use Rattle.machine.specs.Inner.Turns.{covered_by, ran_of};
+ghost use Rattle.machine.specs.Inner.Turns.{ran_of};
 
 use terms::{Counts, End};
 
@@ -32,16 +32,14 @@ pub fn report(end: End, steps: u32, counts: Counts) -> Ran
     Ran { end, steps, counts }
 }
 
-// How many of a list's words the budget covers: three for each step.
+// How many of a list's triples the budget covers.
 pub fn covered(count: usize, budget: u32) -> usize
-    ensures { result ≡ covered_by count budget }
+    ensures { result ≡ min count budget }
 {
-    let all = count / 3;
-    let most = budget as usize;
-    if all < most { 3 * all } else { 3 * most }
+    count.min(budget as usize)
 }
 
-// Why a run came to its end that did n of a list's words.
+// Why a run came to its end that did n of a list's triples.
 pub fn ending(n: usize, count: usize) -> End
     ensures { result ≡ cond (ltb n count) End.Spent End.Done }
 {
@@ -63,18 +61,19 @@ fn turns(
     ensures { run_outcome result (state ds.new a.new r.new c.new vc.new v.new)
         ≡ run_from budget (triples words.now) 0 none (state ds.old a.old r.old c.old vc.old v.old) }
 {
-    let end = covered(words.len(), budget);
+    let all = words.as_chunks::<3>().0;
+    let most = covered(all.len(), budget);
     let mut counts = Counts::default();
-    let mut i: usize = 0;
-    while i < end {
-        let x = units::triple(words[i], words[i + 1], words[i + 2], ds, a, r, c, vc, v);
+    let mut steps = 0;
+    for triple in &all[..most] {
+        let x = units::triple(triple[0], triple[1], triple[2], ds, a, r, c, vc, v);
         let Ok(n) = x else {
-            return report(terms::end_of(x), (i / 3) as u32, counts);
+            return report(terms::end_of(x), steps, counts);
         };
         counts = counts.more(n);
-        i += 3;
+        steps += 1;
     }
-    report(ending(i, words.len()), (i / 3) as u32, counts)
+    report(ending(most, all.len()), steps, counts)
 }
 
 // The list call: the lengths and the number of words are tested once. Where one of them is wrong nothing is begun; the lengths are looked at first.

@@ -1,47 +1,61 @@
 -- A turn by the laws of one turn (Loop.antt), on the state behind the pieces.
-use Rattle.std.proofs.Common.{◌/◌, refl, ap, ◌∙◌, arith, zero-le}
+use Rattle.std.proofs.Common.{◌<◌, ◌≡◌, ap, ◌∙◌, arith}
 use Rattle.terms.specs.Answers.{number}
 use Rattle.terms.specs.declared.End.{End}
-use Rattle.terms.proofs.Sums.{within_none}
 use Rattle.pieces.specs.State.{State, state}
 use Rattle.model.specs.Run.{ended}
-use Rattle.machine.proofs.Loop.{here, fits, next, off, few, last, said}
+use Rattle.machine.proofs.Loop.{till, long, read, fits, next, off, last, said}
 use Rattle.machine.proofs.turns.Goals as goal
-
-pub loop-i-init : goal.loop-i-init
-loop-i-init c = record {
-  till = c.covered-end.ensures;
-  at = refl;
-  within = zero-le;
-  counted = rw c.default-counts.ensures (within_none 0);
-  same = rw c.default-counts.ensures refl;
-}
-
-pub bounds-words-i-in-loop-i : goal.bounds-words-i-in-loop-i
-bounds-words-i-in-loop-i c = omega (arith, (here c.loop-i.invariant c.loop-i-test.true).0)
-
-pub bounds-words-i-in-loop-i-2 : goal.bounds-words-i-in-loop-i-2
-bounds-words-i-in-loop-i-2 c = (here c.loop-i.invariant c.loop-i-test.true).0
 
 pub returns-in_default : goal.returns-in_default
 returns-in_default c =
+    let ws = c.args.words.now in
+    let b = c.args.budget in
+    let front = c.as_chunks.ensures.front in
+    let size = c.as_chunks.ensures.front_len in
+    let m = c.covered-most.ensures in
+    let n = c.loop-triple.triple-index in
+    let l : n < c.covered-most.result = omega (arith, c.loop-triple-test.true, long ws b front size m) in
+    let e = read ws b front size m n l _ c.triple-x.ensures in
     let after : State = state c.triple-x.new.ds c.triple-x.new.a c.triple-x.new.r c.triple-x.new.c c.triple-x.new.vc c.triple-x.new.v in
     said after c.report.ensures
-    (ap (λ (x : End). ended (number x) (c.loop-i.i / 3) c.loop-i.counts after) c.end_of.ensures
-    ∙ off c.loop-i.invariant c.loop-i-test.true c.triple-x.result after c.triple-x.ensures c.in_default.field-0 c.in_default.is)
+    (ap (λ (x : End). ended (number x) c.loop-triple.steps c.loop-triple.counts after) c.end_of.ensures
+    ∙ off (till ws b front size m) c.loop-triple.invariant l c.triple-x.result after e c.in_default.field-0 c.in_default.is)
 
 pub more-counts-requires : goal.more-counts-requires
-more-counts-requires c = fits c.loop-i.invariant c.loop-i-test.true c.triple-x.result _ c.triple-x.ensures c.ranges.budget.fits c.in-Ok.n c.in-Ok.is
+more-counts-requires c =
+    let ws = c.args.words.now in
+    let b = c.args.budget in
+    let front = c.as_chunks.ensures.front in
+    let size = c.as_chunks.ensures.front_len in
+    let m = c.covered-most.ensures in
+    let n = c.loop-triple.triple-index in
+    let l : n < c.covered-most.result = omega (arith, c.loop-triple-test.true, long ws b front size m) in
+    let e = read ws b front size m n l _ c.triple-x.ensures in
+    fits (till ws b front size m) c.loop-triple.invariant l c.triple-x.result _ e c.ranges.budget.fits c.in-Ok.n c.in-Ok.is
 
-pub loop-i-preserved : goal.loop-i-preserved
-loop-i-preserved c = next c.loop-i.invariant c.loop-i-test.true c.triple-x.result _ c.triple-x.ensures c.in-Ok.n c.in-Ok.is c.more-counts.ensures
-
-pub overflow_cast-i-2 : goal.overflow_cast-i-2
-overflow_cast-i-2 c = record { fits = few c.loop-i.invariant c.ranges.budget.fits }
+pub loop-triple-preserved : goal.loop-triple-preserved
+loop-triple-preserved c =
+    let ws = c.args.words.now in
+    let b = c.args.budget in
+    let front = c.as_chunks.ensures.front in
+    let size = c.as_chunks.ensures.front_len in
+    let m = c.covered-most.ensures in
+    let n = c.loop-triple.triple-index in
+    let l : n < c.covered-most.result = omega (arith, c.loop-triple-test.true, long ws b front size m) in
+    let e = read ws b front size m n l _ c.triple-x.ensures in
+    next (till ws b front size m) c.loop-triple.invariant l c.triple-x.result _ e c.in-Ok.n c.in-Ok.is c.more-counts.ensures
 
 pub returns : goal.returns
 returns c =
-    let now : State = state c.loop-i.ds c.loop-i.a c.loop-i.r c.loop-i.c c.loop-i.vc c.loop-i.v in
+    let ws = c.args.words.now in
+    let b = c.args.budget in
+    let front = c.as_chunks.ensures.front in
+    let size = c.as_chunks.ensures.front_len in
+    let m = c.covered-most.ensures in
+    let n = c.loop-triple.triple-index in
+    let all : n ≡ c.covered-most.result = omega (arith, c.loop-triple-test.false, c.loop-triple.auto.triple-index-end, long ws b front size m) in
+    let now : State = state c.loop-triple.ds c.loop-triple.a c.loop-triple.r c.loop-triple.c c.loop-triple.vc c.loop-triple.v in
     said now c.report-2.ensures
-    (ap (λ (x : End). ended (number x) (c.loop-i.i / 3) c.loop-i.counts now) c.ending.ensures
-    ∙ last c.loop-i.invariant c.requires c.loop-i-test.false)
+    (ap (λ (x : End). ended (number x) c.loop-triple.steps c.loop-triple.counts now) (rw size at c.ending.ensures)
+    ∙ last (till ws b front size m) c.loop-triple.invariant c.requires all)
