@@ -1,2 +1,2 @@
--- What a function of two components gives.
-pub mod Gives
+-- What `inner` holds is inner to the code.
+pub mod Inner

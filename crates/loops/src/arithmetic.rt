@@ -4,7 +4,7 @@ ghost use Rattle.lane.specs.declared.Calc.{Calc};
 ghost use Rattle.lane.specs.declared.Calc.TheVariants.{Min, Max, Abs, Neg, Add, Sub};
 ghost use Rattle.lane.specs.Lane.{arith_lane, tells};
 ghost use Rattle.lanes.specs.Inner.Unpacked.{arith_unpacked};
-ghost use Rattle.loops.specs.Gives.{Gives};
+ghost use Rattle.loops.specs.Inner.Gives.{Gives};
 
 use crate::each::each;
 use lane::scalar;

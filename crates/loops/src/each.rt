@@ -1,7 +1,7 @@
 // A function of two components over sixteen of them: the compiler makes vector code of it.
 ghost use Rattle.std.specs.Prelude.{◌≡◌, ℕ, get_or};
 ghost use Rattle.lanes.specs.Lanes.{listed};
-ghost use Rattle.loops.specs.Gives.{Gives};
+ghost use Rattle.loops.specs.Inner.Gives.{Gives};
 
 use std::array;
 

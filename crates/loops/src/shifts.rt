@@ -2,7 +2,7 @@
 ghost use Rattle.std.specs.Prelude.{◌≡◌, Bool, true, false, if◌then◌else◌};
 ghost use Rattle.lane.specs.Lane.{shift_lane};
 ghost use Rattle.lanes.specs.Inner.Unpacked.{shift_unpacked};
-ghost use Rattle.loops.specs.Gives.{Gives};
+ghost use Rattle.loops.specs.Inner.Gives.{Gives};
 
 use crate::each::each;
 use lane::shifts;

@@ -17,20 +17,20 @@ as_it_was p q r s t u = λ i. state (p i) (q i) (r i) (s i) (t i) (u i)
 
 module _ (b : ℕ) (ws : List ℕ) {t s : State} (same : t ≡ s) where
   -- what a call reports that did nothing
-  reported : {x : Ran} {k : Counts} (e : End) → x ≡ ran_of e 0 k → k ≡ none → run_outcome x t ≡ ended (number e) 0 none s
-  reported {x} e p q = ap (λ (y : Ran). run_outcome y t) (p ∙ ap (ran_of e 0) q) ∙ ap (ended (number e) 0 none) same
+  reported : {x : Ran} {k : Counts} {d : End} (e : End) → x ≡ ran_of d 0 k → d ≡ e → k ≡ none → run_outcome x t ≡ ended (number e) 0 none s
+  reported {x} e p r q = ap (λ (y : Ran). run_outcome y t) (p ∙ ap₂ (λ (d : End) (k : Counts). ran_of d 0 k) r q) ∙ ap (ended (number e) 0 none) same
 
-  pub unfit : {x : Ran} {k : Counts} → x ≡ ran_of E.Lengths 0 k → k ≡ none → (Sized s → ⊥) → run_outcome x t ≡ run_of b ws s
+  pub unfit : {x : Ran} {k : Counts} {d : End} → x ≡ ran_of d 0 k → d ≡ E.Lengths → k ≡ none → (Sized s → ⊥) → run_outcome x t ≡ run_of b ws s
   unfolding run_of
-  unfit p q f = reported E.Lengths p q ∙ go (sized_of s) refl
+  unfit p r q f = reported E.Lengths p r q ∙ go (sized_of s) refl
     where
       go : (y : Bool) → sized_of s ≡ y → ended (number E.Lengths) 0 none s ≡ run_of b ws s
       go true e = absurd (f (sized_if s e))
       go false e = rw e refl
 
-  pub ragged : {x : Ran} {k : Counts} → x ≡ ran_of E.Ragged 0 k → k ≡ none → Sized s → (length ws % 3 ≡ 0 → ⊥) → run_outcome x t ≡ run_of b ws s
+  pub ragged : {x : Ran} {k : Counts} {d : End} → x ≡ ran_of d 0 k → d ≡ E.Ragged → k ≡ none → Sized s → (length ws % 3 ≡ 0 → ⊥) → run_outcome x t ≡ run_of b ws s
   unfolding run_of
-  ragged p q h f = reported E.Ragged p q ∙ rw (sized_only s h, ne_eqb (length ws % 3) 0 f) refl
+  ragged p r q h f = reported E.Ragged p r q ∙ rw (sized_only s h, ne_eqb (length ws % 3) 0 f) refl
 
   pub begun : {o : RunOutcome} → o ≡ run_from b (triples ws) 0 none t → Sized s → length ws % 3 ≡ 0 → o ≡ run_of b ws s
   unfolding run_of

@@ -76,7 +76,14 @@ fn turns(
     report(ending(most, all.len()), steps, counts)
 }
 
-// The list call: the lengths and the number of words are tested once. Where one of them is wrong nothing is begun; the lengths are looked at first.
+// Why a list is not begun: the lengths are looked at before the number of words.
+pub fn unfit(sized: bool) -> End
+    ensures { result ≡ cond sized End.Ragged End.Lengths }
+{
+    if sized { End::Ragged } else { End::Lengths }
+}
+
+// The list call: the lengths and the number of words are tested once.
 pub fn run(
     words: &[u32],
     budget: u32,
@@ -90,27 +97,27 @@ pub fn run(
     ensures { run_outcome result (state ds.new a.new r.new c.new vc.new v.new)
         ≡ run_of budget words.now (state ds.old a.old r.old c.old vc.old v.old) }
 {
-    let unfit = report(End::Lengths, 0, Counts::default());
+    let refused = report(unfit(false), 0, Counts::default());
     let Some(ds) = ds.as_mut_array() else {
-        return unfit;
+        return refused;
     };
     let Some(a) = a.as_mut_array() else {
-        return unfit;
+        return refused;
     };
     let Some(r) = r.as_mut_array() else {
-        return unfit;
+        return refused;
     };
     let Some(c) = c.as_mut_array() else {
-        return unfit;
+        return refused;
     };
     let Some(vc) = vc.as_mut_array() else {
-        return unfit;
+        return refused;
     };
     let Some(v) = v.as_mut_array() else {
-        return unfit;
+        return refused;
     };
     if words.len() % 3 != 0 {
-        return report(End::Ragged, 0, Counts::default());
+        return report(unfit(true), 0, Counts::default());
     }
     turns(words, budget, ds, a, r, c, vc, v)
 }

@@ -117,7 +117,8 @@ fn closing(budget: u32, x: Ran, rest: &[u8]) -> Run
     going(budget, x.steps, counts, tail, held)
 }
 
-// Bytes for a run that is not over: the triple that they make whole, the triples after it, and what is left.
+// Bytes for a run that is not over: the triple that they make whole, the triples after it, and what is left. (Part of its one caller: there are
+// returns before the call, and it would be taken for a rare one.)
 #[inline(always)]
 fn feed(
     x: Run,

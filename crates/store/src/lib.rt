@@ -48,20 +48,9 @@ pub fn load_row(ds: &[u8; 8192], code: usize, addr: usize) -> [u8; 16]
     part(&w, banks::bank(code, start))
 }
 
-// The same of a row that is to be stored.
-fn doubled(x: [u8; 16], w: &mut [u8; 32])
-    ensures { w.new ≡ loaded x (upto (λ i. i % 16) 32) }
-{
-    for i in 0..16 {
-        let b = x[i];
-        w[i] = b;
-        w[16 + i] = b;
-    }
-}
-
 // Bank by bank, which is not the row's order: each byte has its own bank, so the order does not matter.
-fn to_banks(ds: &mut [u8; 8192], line: usize, w: &[u8; 32], first: usize)
-    requires { (line < 512) × (first ≤ 16) }
+fn to_banks(ds: &mut [u8; 8192], line: usize, w: &[u8], first: usize)
+    requires { (line < 512) × (first ≤ 16) × (length w.now ≡ 32) }
     ensures { ds.new ≡ stored ds.old (upto (in_bank line) 16) (drop first w.now) }
 {
     for k in 0..16 {
@@ -74,9 +63,13 @@ pub fn store_row(ds: &mut [u8; 8192], code: usize, addr: usize, bytes: [u8; 16])
     ensures { ds.new ≡ stored ds.old (places code (addresses Horizontal code addr)) bytes }
 {
     let start = banks::start(Way::Horizontal, code, addr);
-    let mut w = [0u8; 32];
-    doubled(bytes, &mut w);
-    to_banks(ds, start / 16, &w, 16 - banks::bank(code, start));
+    let twice = [bytes; 2];
+    to_banks(
+        ds,
+        start / 16,
+        twice.as_flattened(),
+        16 - banks::bank(code, start),
+    );
 }
 
 // ---- columns: from the first place on by equal steps, round the store

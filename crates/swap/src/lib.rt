@@ -71,6 +71,7 @@ pub fn may_swap(
     if !pieces::sized(ds.len(), a.len(), r.len(), c.len(), vc.len(), v.len()) {
         return unswapped(End::Lengths);
     }
+    // Here it has thirty-two words; as an array its type says so.
     let Some(a) = a.as_array() else {
         return unswapped(End::Lengths);
     };
@@ -129,6 +130,7 @@ pub fn places(
     if !pieces::sized(ds.len(), a.len(), r.len(), c.len(), vc.len(), v.len()) {
         return unlisted(End::Lengths);
     }
+    // Here it has thirty-two words; as an array its type says so.
     let Some(a) = a.as_array() else {
         return unlisted(End::Lengths);
     };

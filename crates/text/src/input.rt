@@ -1,5 +1,5 @@
 // What a program reads: a file, or standard input.
-ghost use Rattle.std.specs.Prelude.{IfOk};
+ghost use Rattle.std.specs.Prelude.{◌≡◌, IfOk, length};
 ghost use Rattle.text.specs.Counts.{IsPrefixLen};
 
 use std::io;
@@ -7,7 +7,8 @@ use std::io::Read;
 
 // Reads until room is full, the input ends or a read fails, puts what comes at the start of room, and answers how many bytes that is.
 pub fn fill<R: Read>(from: &mut R, room: &mut [u8]) -> io::Result<usize>
-    ensures { IfOk result (λ n. IsPrefixLen n room.new) }
+    ensures came { IfOk result (λ n. IsPrefixLen n room.new) }
+    ensures kept { length room.new ≡ length room.old }
 {
     // No index: each read brings as many bytes as it likes.
     let mut done = 0;
