@@ -1,10 +1,11 @@
 -- A part: of a run that is over, that is lent pieces of other lengths, that is fed.
 use mathlib.Core.Path.{◌≡◌, sym, ap, subst, ◌∙◌}
-use mathlib.Core.Bool.{true, false}
+use mathlib.Core.Bool.{true, false, true≢false}
 use mathlib.Core.List.{List}
 use Prim.Native.Nat.{ℕ}
 use Rattle.terms.specs.declared.End.TheVariants as E
-use Rattle.pieces.specs.State.{State, Sized}
+use Rattle.pieces.specs.State.{State, Sized, sized_of}
+use Rattle.pieces.proofs.Right.{sized_only}
 use Rattle.model.specs.Parts.{Parts, parts, fed, part_of}
 use Rattle.model.proofs.Parts.{over_part, part_five, part_fed}
 use Rattle.parts.specs.Run.{meant_by, struct_of, given, handed}
@@ -37,16 +38,13 @@ module _ (r x : Run) (e : x ≡ struct_of (meant_by r)) (bs : List ℕ) (s : Sta
     pub part_open : Open x
     part_open = subst Open (sym e) (open_struct (meant_by r) (meant_fit r) going)
 
-    module _ {t : State} (same : t ≡ s) where
-      -- a piece of another length: those that were looked at before it are as they were
-      pub part_lengths : (Sized s → ⊥) → {y : Run} → y ≡ kept_by E.Lengths x → given y t ≡ handed (part_of bs (meant_by r) s)
-      part_lengths f {y} q =
-          ap (given y) same
-          ∙ ap (λ (z : Run). given z s) (q ∙ ap (kept_by E.Lengths) e ∙ kept_struct E.Lengths (meant_by r))
-          ∙ ap handed (sym (part_five bs (meant_by r) s going f))
+    -- pieces of other lengths
+    pub part_lengths : sized_of s ≡ false → (y : Run) → y ≡ kept_by E.Lengths x → given y s ≡ handed (part_of bs (meant_by r) s)
+    part_lengths f y q =
+        ap (λ (z : Run). given z s) (q ∙ ap (kept_by E.Lengths) e ∙ kept_struct E.Lengths (meant_by r))
+        ∙ ap handed (sym (part_five bs (meant_by r) s going (λ z. true≢false (sym (sized_only s z) ∙ f))))
 
-      -- of right lengths
-      pub part_feeds : Sized s → {y : Run} {u : State} → given y u ≡ handed (fed bs (open_of x) t) → given y u ≡ handed (part_of bs (meant_by r) s)
-      part_feeds z q =
-          q ∙ ap (λ (t : State). handed (fed bs (open_of x) t)) same
-          ∙ ap handed (ap (λ (p : Parts). fed bs p s) (ap open_of e ∙ open_is (meant_by r) (meant_fit r) going) ∙ sym (part_fed bs (meant_by r) s z))
+    -- of right lengths
+    pub part_feeds : Sized s → (y : Run) (t : State) → given y t ≡ handed (fed bs (open_of x) s) → given y t ≡ handed (part_of bs (meant_by r) s)
+    part_feeds z y t q =
+        q ∙ ap handed (ap (λ (p : Parts). fed bs p s) (ap open_of e ∙ open_is (meant_by r) (meant_fit r) going) ∙ sym (part_fed bs (meant_by r) s z))

@@ -6,7 +6,7 @@ mod stream; // stream.rt: whole triples, a buffer at a time
 pub mod sixteen; // sixteen.rt: the state as sixteen words, for C
 
 ghost use Rattle.std.specs.Prelude.{◌≡◌, cond, ◌<◌, eqb};
-ghost use Rattle.pieces.specs.State.{state};
+ghost use Rattle.pieces.specs.State.{state, Sized};
 ghost use Rattle.model.specs.Parts.{begun, fed, part_of, end_of};
 ghost use Rattle.parts.specs.Run.{answer_of, sound, meant_by, struct_of, given, handed};
 ghost use Rattle.parts.specs.Inner.Feed.{Open, open_of, going_by, kept_by, closing};
@@ -117,20 +117,19 @@ fn closing(budget: u32, x: Ran, rest: &[u8]) -> Run
     going(budget, x.steps, counts, tail, held)
 }
 
-// Bytes for a run that is not over: the triple that they make whole, the triples after it, and what is left. (Part of its one caller: there are
-// returns before the call, and it would be taken for a rare one.)
-#[inline(always)]
+// Bytes for a run that is not over: the triple that they make whole, the triples after it, and what is left. (The pieces stay slices here, of lengths that
+// `part` has tested: as arrays, made by six tests that may each return, a short part takes some forty instructions more.)
 fn feed(
     x: Run,
     bytes: &[u8],
-    ds: &mut [u8; 8192],
-    a: &mut [u32; 32],
-    r: &mut [u32; 32],
-    c: &mut [u32; 4],
-    vc: &mut [u32; 4],
-    v: &mut [u8; 512],
+    ds: &mut [u8],
+    a: &mut [u32],
+    r: &mut [u32],
+    c: &mut [u32],
+    vc: &mut [u32],
+    v: &mut [u8],
 ) -> Run
-    requires { Open x }
+    requires { Sized (state ds.old a.old r.old c.old vc.old v.old) × Open x }
     ensures { given result (state ds.new a.new r.new c.new vc.new v.new)
         ≡ handed (fed bytes.now (open_of x) (state ds.old a.old r.old c.old vc.old v.old)) }
 {
@@ -174,25 +173,11 @@ pub fn part(
     if x.over {
         return x;
     }
-    let Some(ds) = ds.as_mut_array() else {
-        return kept(x, End::Lengths);
-    };
-    let Some(a) = a.as_mut_array() else {
-        return kept(x, End::Lengths);
-    };
-    let Some(r) = r.as_mut_array() else {
-        return kept(x, End::Lengths);
-    };
-    let Some(c) = c.as_mut_array() else {
-        return kept(x, End::Lengths);
-    };
-    let Some(vc) = vc.as_mut_array() else {
-        return kept(x, End::Lengths);
-    };
-    let Some(v) = v.as_mut_array() else {
-        return kept(x, End::Lengths);
-    };
-    feed(x, bytes, ds, a, r, c, vc, v)
+    let sized = pieces::sized(ds.len(), a.len(), r.len(), c.len(), vc.len(), v.len());
+    if sized {
+        return feed(x, bytes, ds, a, r, c, vc, v);
+    }
+    kept(x, End::Lengths)
 }
 
 // Why a run ends with so many bytes left over.

@@ -1,6 +1,6 @@
 // Whole triples as bytes, one after the other: a buffer of words at a time, so that the machine's own loop does the steps.
 ghost use Rattle.std.specs.Prelude.{◌≡◌, true, not, ◌+◌, ◌<◌, ◌≤◌, eqb};
-ghost use Rattle.pieces.specs.State.{state};
+ghost use Rattle.pieces.specs.State.{state, Sized};
 ghost use Rattle.terms.specs.Answers.{number};
 ghost use Rattle.terms.specs.Counts.{plus, Within};
 ghost use Rattle.terms.specs.Inner.Runs.{most};
@@ -42,14 +42,14 @@ pub fn one(
     bytes: [u8; 12],
     budget: u32,
     from: Ran,
-    ds: &mut [u8; 8192],
-    a: &mut [u32; 32],
-    r: &mut [u32; 32],
-    c: &mut [u32; 4],
-    vc: &mut [u32; 4],
-    v: &mut [u8; 512],
+    ds: &mut [u8],
+    a: &mut [u32],
+    r: &mut [u32],
+    c: &mut [u32],
+    vc: &mut [u32],
+    v: &mut [u8],
 ) -> Ran
-    requires { (from.steps ≤ budget) × Within from.steps from.counts × (eqb (number from.end) 0 ≡ true) }
+    requires { Sized (state ds.old a.old r.old c.old vc.old v.old) × (from.steps ≤ budget) × Within from.steps from.counts × (eqb (number from.end) 0 ≡ true) }
     ensures { run_outcome result (state ds.new a.new r.new c.new vc.new v.new)
         ≡ onward budget (triples (words_of bytes)) (run_outcome from (state ds.old a.old r.old c.old vc.old v.old)) }
 {
@@ -70,14 +70,14 @@ pub fn stream(
     bytes: &[u8],
     budget: u32,
     from: Ran,
-    ds: &mut [u8; 8192],
-    a: &mut [u32; 32],
-    r: &mut [u32; 32],
-    c: &mut [u32; 4],
-    vc: &mut [u32; 4],
-    v: &mut [u8; 512],
+    ds: &mut [u8],
+    a: &mut [u32],
+    r: &mut [u32],
+    c: &mut [u32],
+    vc: &mut [u32],
+    v: &mut [u8],
 ) -> Ran
-    requires { (from.steps ≤ budget) × Within from.steps from.counts }
+    requires { Sized (state ds.old a.old r.old c.old vc.old v.old) × (from.steps ≤ budget) × Within from.steps from.counts }
     ensures { run_outcome result (state ds.new a.new r.new c.new vc.new v.new)
         ≡ onward budget (triples (words_of bytes.now)) (run_outcome from (state ds.old a.old r.old c.old vc.old v.old)) }
 {
