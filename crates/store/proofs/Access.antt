@@ -5,7 +5,7 @@ use Prim.Native.Nat.{ℕ, zero, suc, ◌+◌, ◌*◌, ◌-◌, ◌/◌, ◌%◌
 use native.Mathlib.Omega.{arith}
 use native.Mathlib.Nat.{mul-add}
 use lib.Bits.{bit_or}
-use lib.ListN.{length, drop}
+use lib.ListN.{length}
 use Rattle.banks.specs.Bank.{at, turn_of, bank_of}
 use Rattle.banks.specs.Line.{from, line, addresses, start_of, step_of, count_of, stride_of, row_start, word_start, column_start}
 use Rattle.banks.specs.Inner.Access.{places}
@@ -168,8 +168,8 @@ module _ (c a s b : ℕ) (e : s ≡ start_of Horizontal c a) (f : b ≡ bank_of 
       → r ≡ loaded ds (places c (addresses Horizontal c a))
   row_loaded ds w r p q = q ∙ (rw p (row_loads (s / 16) b ds (bank_within c s b f) ∙ ap (loaded ds) row_from))
 
-  pub row_stored : (ds x w end : List ℕ) → length ds ≡ 8192 → w ≡ loaded x (upto (λ i. i % 16) 32)
-      → end ≡ stored ds (upto (in_bank (s / 16)) 16) (drop (16 - b) w) → end ≡ stored ds (places c (addresses Horizontal c a)) x
+  pub row_stored : (ds x w end : List ℕ) → length ds ≡ 8192 → w ≡ loaded x (upto (λ k. (16 - b + k) % 16) 16)
+      → end ≡ stored ds (upto (in_bank (s / 16)) 16) w → end ≡ stored ds (places c (addresses Horizontal c a)) x
   row_stored ds x w end h p q =
       q ∙ (rw p (row_stores (s / 16) b ds x (line_within Horizontal c a s e) (bank_within c s b f) h ∙ ap (λ (ps : List ℕ). stored ds ps x) row_from))
 

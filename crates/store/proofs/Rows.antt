@@ -1,15 +1,18 @@
 -- A row is a line's bytes from one bank on: the order of its stores does not matter, since they go to a bank each.
-use mathlib.Core.Path.{◌≡◌, sym, ap, ◌∙◌}
-use mathlib.Core.List.{List, [], ◌++◌}
-use Prim.Native.Nat.{ℕ, ◌+◌, ◌*◌, ◌-◌, ◌/◌, ◌%◌, ◌<◌}
+use mathlib.Core.Path.{◌≡◌, refl, sym, ap, ◌∙◌}
+use mathlib.Core.Bool.{cond}
+use lib.Bits.{bit_and, and_mask}
+use lib.Dec.{leb}
+use borrow.Author.Tests.{lt-leb}
+use mathlib.Core.List.{List}
+use Prim.Native.Nat.{ℕ, ◌+◌, ◌*◌, ◌-◌, ◌/◌, ◌%◌, ◌<◌, ◌≤◌}
 use native.Mathlib.Omega.{arith}
-use native.Mathlib.Decide.{ℕ_discrete, dec_lt}
-use lib.ListN.{length, get_or, drop, length-append}
-use Rattle.std.proofs.lemmas.List.{get_or_append_left, get_or-append-add}
-use lib.Seq.{ext_get_or, get_or-drop}
+use native.Mathlib.Decide.{ℕ_discrete}
+use lib.ListN.{length, get_or}
+use lib.Seq.{ext_get_or}
 use Rattle.store.specs.Inner.Steps.{upto, in_bank}
 use Rattle.store.specs.Inner.Loads.{loaded, stored}
-use Rattle.store.proofs.Laws.{length_stored, get_d_loads, loads_by, loads_loads, stored_not, stored_at}
+use Rattle.store.proofs.Laws.{length_stored, length_upto, get_d_upto, get_d_loads, loads_by, loads_loads, stored_not, stored_at}
 
 pub row_loads : (l b : ℕ) (ds : List ℕ) → b < 16
     → loaded (loaded ds (upto (in_bank l) 32)) (upto (λ i. b + i) 16) ≡ loaded ds (upto (λ i. in_bank l (b + i)) 16)
@@ -17,20 +20,22 @@ row_loads l b ds h = loads_loads (in_bank l) (λ i. b + i) 32 16 ds (λ i u. ome
 
 -- the byte of the row that goes to bank k
 turned : (b k : ℕ) (x : List ℕ) → b < 16 → k < 16
-    → get_or (drop (16 - b) (loaded x (upto (λ i. i % 16) 32))) k 0 ≡ get_or x ((16 - b + k) % 16) 0
-turned b k x hb hk = get_or-drop (16 - b) _ k 0 ∙ get_d_loads (λ i. i % 16) 32 x (16 - b + k) (omega arith)
+    → get_or (loaded x (upto (λ k. (16 - b + k) % 16) 16)) k 0 ≡ get_or x ((16 - b + k) % 16) 0
+turned b k x hb hk = get_d_loads (λ k. (16 - b + k) % 16) 16 x k hk
 
--- sixteen bytes that stand twice
-pub twice_is : (x : List ℕ) → length x ≡ 16 → x ++ (x ++ []) ≡ loaded x (upto (λ i. i % 16) 32)
-twice_is x whole =
-    loads_by (λ i. i % 16) 32 x (x ++ (x ++ [])) (length-append x (x ++ []) ∙ rw (length-append x []) (omega (arith, whole))) (λ k h. go k h (dec_lt k 16))
-  where
-    go : (k : ℕ) → k < 32 → Dec (k < 16) → get_or (x ++ (x ++ [])) k 0 ≡ get_or x (k % 16) 0
-    go k h (yes l) = let z : k % 16 ≡ k = omega arith in rw z (get_or_append_left x (x ++ []) 0 k (omega (arith, whole)))
-    go k h (no l) =
-        let m = k % 16 in
-        let e : k ≡ length x + m = omega (arith, whole) in
-        ap (λ (j : ℕ). get_or (x ++ (x ++ [])) j 0) e ∙ get_or-append-add x (x ++ []) m 0 ∙ get_or_append_left x [] 0 m (omega (arith, whole))
+-- sixteen bytes picked by their numbers, each moved on and cut to four bits: none is 128 or more, which would pick a 0
+module _ (x : List ℕ) (by : ℕ) (small : by ≤ 16) where
+  abbrev picked : ℕ → ℕ
+  picked k = cond (leb 128 (bit_and ((k + by) % 256) 15)) 0 (get_or x (0 + bit_and ((k + by) % 256) 15) 0)
+
+  one : (k : ℕ) → k < 16 → picked k ≡ get_or x ((by + k) % 16) 0
+  one k h =
+      let e : bit_and ((k + by) % 256) 15 ≡ (by + k) % 16 = and_mask ((k + by) % 256) 4 ∙ omega (arith, small) in
+      let z : 0 + (by + k) % 16 ≡ (by + k) % 16 = omega arith in
+      rw (e, lt-leb 128 ((by + k) % 16) (omega arith), z) refl
+
+  pub turn_is : upto picked 16 ≡ loaded x (upto (λ k. (by + k) % 16) 16)
+  turn_is = loads_by (λ k. (by + k) % 16) 16 x (upto picked 16) (length_upto picked 16) (λ k h. get_d_upto picked 16 k h ∙ one k h)
 
 -- the code's place of bank k, and of the second half's bank 16 + k
 pub in_bank_lem : (l k : ℕ) → k < 16 → 512 * k + l ≡ in_bank l k
@@ -55,7 +60,7 @@ bank_at_lem l p h e k f = rw f (omega arith)
 
 module _ (l b : ℕ) (ds x : List ℕ) (hl : l < 512) (hb : b < 16) (whole : length ds ≡ 8192) where
   abbrev us : List ℕ
-  us = drop (16 - b) (loaded x (upto (λ i. i % 16) 32))
+  us = loaded x (upto (λ k. (16 - b + k) % 16) 16)
 
   pub row_stores : stored ds (upto (in_bank l) 16) us
       ≡ stored ds (upto (λ i. in_bank l (b + i)) 16) x

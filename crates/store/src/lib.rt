@@ -10,12 +10,13 @@ ghost use Rattle.store.specs.Inner.Steps.{upto, stepped, paired, in_bank};
 ghost use Rattle.store.specs.Inner.Loads.{loaded, stored, word_of, bytes_of};
 ghost use Rattle.store.specs.Store.{bank_view};
 
+use std::simd::u8x16;
 use terms::Way;
 
 // ---- rows: a line's byte in each of the sixteen banks, from one bank on round
 
-// In the order of the banks, twice, so that a row lies in one piece wherever it begins. (Rows and words go by index, each in a function of its own: with
-// iterators or `from_fn` over the same places a load or store takes two to eight instructions more.)
+// In the order of the banks, twice, so that a row lies in one piece wherever it begins. (What is loaded, and words, go by index, each in a function of its own:
+// with iterators or `from_fn` over the same places an access takes two to eight instructions more.)
 fn banked(ds: &[u8; 8192], line: usize, w: &mut [u8; 32])
     requires { line < 512 }
     ensures { w.new ≡ loaded ds.now (upto (in_bank line) 32) }
@@ -48,13 +49,25 @@ pub fn load_row(ds: &[u8; 8192], code: usize, addr: usize) -> [u8; 16]
     part(&w, banks::bank(code, start))
 }
 
+// Sixteen bytes by number.
+const NUMBERS: [u8; 16] = [0, 1, 2, 3, 4, 5, 6, 7, 8, 9, 10, 11, 12, 13, 14, 15];
+
+// Sixteen bytes turned round: byte k is the one that stood `by` places on. (One instruction picks all of them.)
+fn turned(x: [u8; 16], by: usize) -> [u8; 16]
+    requires { by ≤ 16 }
+    ensures { result ≡ loaded x (upto (λ k. (by + k) % 16) 16) }
+{
+    let places = (u8x16::from_array(NUMBERS) + u8x16::splat(by as u8)) & u8x16::splat(15);
+    u8x16::from_array(x).swizzle_dyn(places).to_array()
+}
+
 // Bank by bank, which is not the row's order: each byte has its own bank, so the order does not matter.
-fn to_banks(ds: &mut [u8; 8192], line: usize, w: &[u8], first: usize)
-    requires { (line < 512) × (first ≤ 16) × (length w.now ≡ 32) }
-    ensures { ds.new ≡ stored ds.old (upto (in_bank line) 16) (drop first w.now) }
+fn to_banks(ds: &mut [u8; 8192], line: usize, w: [u8; 16])
+    requires { line < 512 }
+    ensures { ds.new ≡ stored ds.old (upto (in_bank line) 16) w }
 {
     for k in 0..16 {
-        ds[512 * k + line] = w[first + k];
+        ds[512 * k + line] = w[k];
     }
 }
 
@@ -63,13 +76,8 @@ pub fn store_row(ds: &mut [u8; 8192], code: usize, addr: usize, bytes: [u8; 16])
     ensures { ds.new ≡ stored ds.old (places code (addresses Horizontal code addr)) bytes }
 {
     let start = banks::start(Way::Horizontal, code, addr);
-    let twice = [bytes; 2];
-    to_banks(
-        ds,
-        start / 16,
-        twice.as_flattened(),
-        16 - banks::bank(code, start),
-    );
+    let by = 16 - banks::bank(code, start);
+    to_banks(ds, start / 16, turned(bytes, by));
 }
 
 // ---- columns: from the first place on by equal steps, round the store
