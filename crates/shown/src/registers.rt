@@ -47,7 +47,7 @@ pub fn vector_named(out: Stdout, n: usize) {
 }
 
 // The register n of $v, which holds these bytes.
-pub fn vector(out: Stdout, n: usize, value: &[u8; 16]) {
+pub fn vector(out: Stdout, n: usize, value: &[u8]) {
     vector_named(out, n);
     bytes(out, value);
     text(out, b"\n");

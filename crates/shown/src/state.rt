@@ -1,5 +1,5 @@
 // A state of the two units: what the steps of a run read and write.
-ghost use Rattle.std.specs.Prelude.{◌≡◌, ◌<◌, get_or, replicate, set};
+ghost use Rattle.std.specs.Prelude.{◌≡◌, ◌<◌, ◌≤◌, get_or, replicate, set};
 ghost use Rattle.pieces.specs.Inner.Regs.{vreg_of, with_vreg};
 ghost use Rattle.orders.specs.declared.Kind.TheVariants.{A, R, C, Vc};
 
@@ -70,10 +70,10 @@ impl State {
 
     // The register n of a kind holds this value, if there is one.
     pub fn set_word(&mut self, kind: Kind, n: usize, value: u32)
-        ensures a { kind ≡ A → self.new.a ≡ set self.old.a n value }
-        ensures r { kind ≡ R → self.new.r ≡ set self.old.r n value }
-        ensures c { kind ≡ C → self.new.c ≡ set self.old.c n value }
-        ensures vc { kind ≡ Vc → self.new.vc ≡ set self.old.vc n value }
+        ensures a { kind ≡ A → self.new ≡ record { ds = self.old.ds; a = set self.old.a n value; r = self.old.r; c = self.old.c; vc = self.old.vc; v = self.old.v } }
+        ensures r { kind ≡ R → self.new ≡ record { ds = self.old.ds; a = self.old.a; r = set self.old.r n value; c = self.old.c; vc = self.old.vc; v = self.old.v } }
+        ensures c { kind ≡ C → self.new ≡ record { ds = self.old.ds; a = self.old.a; r = self.old.r; c = set self.old.c n value; vc = self.old.vc; v = self.old.v } }
+        ensures vc { kind ≡ Vc → self.new ≡ record { ds = self.old.ds; a = self.old.a; r = self.old.r; c = self.old.c; vc = set self.old.vc n value; v = self.old.v } }
     {
         match kind {
             Kind::A => put(&mut self.a, n, value),
@@ -85,7 +85,8 @@ impl State {
 
     // What the register n of $v holds, zeros where there is none.
     pub fn vector(&self, n: usize) -> [u8; 16]
-        ensures { n < 32 → result ≡ vreg_of self.now.v n }
+        ensures there { n < 32 → result ≡ vreg_of self.now.v n }
+        ensures none { 32 ≤ n → result ≡ replicate 16 0 }
     {
         if n < 32 {
             pieces::vreg(&self.v, n)
@@ -96,7 +97,8 @@ impl State {
 
     // The register n of $v holds these bytes, if there is one.
     pub fn set_vector(&mut self, n: usize, bytes: [u8; 16])
-        ensures { n < 32 → self.new.v ≡ with_vreg self.old.v n bytes }
+        ensures there { n < 32 → self.new ≡ record { ds = self.old.ds; a = self.old.a; r = self.old.r; c = self.old.c; vc = self.old.vc; v = with_vreg self.old.v n bytes } }
+        ensures none { 32 ≤ n → self.new ≡ self.old }
     {
         if n < 32 {
             pieces::set_vreg(&mut self.v, n, bytes);
