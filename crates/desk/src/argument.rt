@@ -8,6 +8,7 @@ use std::env::Env;
 use text::find::feed;
 
 // What argument i is, read as a line of a listing: only what stands before a line feed. What is wrong with it is told.
+#[inline(never)]
 fn read_as<T, F: Fn(&[u8]) -> Result<T, Fault>>(
     rt: HostRuntime,
     i: usize,

@@ -22,6 +22,7 @@ fn verdict(out: Stdout, file: &[u8], t: Tally) -> u32 {
 }
 
 // The listing that argument i names against the file that argument j names. Where this sets the start, the listing does not.
+#[inline(never)]
 pub fn check(rt: HostRuntime, i: usize, j: usize) -> Result<u32, Told> {
     let out = rt.stdout();
     let mut name = [0; 65536];

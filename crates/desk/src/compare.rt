@@ -32,7 +32,7 @@ impl Tally {
 fn agrees(e: Expected, run: &Run) -> bool {
     match e {
         Expected::Part(p) => run.state.word(p.kind, p.n) & p.mask == p.value,
-        Expected::Sixteen(s, wanted) => bytes_of(&run.state, s) == wanted,
+        Expected::Sixteen(s, wanted) => bytes_of(run.state.view(), s) == wanted,
         Expected::Answer(n) => u32::from(run.end) == n,
         Expected::Steps(n) => run.steps == n,
         Expected::Cells(n) => run.counts.accesses == u64::from(n),
@@ -44,12 +44,12 @@ fn agrees(e: Expected, run: &Run) -> bool {
 // What the run has left of the thing that a line speaks of.
 fn found(out: Stdout, e: Expected, run: &Run) {
     match e {
-        Expected::Part(p) => subject(out, Subject::Word(p.kind, p.n), &run.state),
-        Expected::Sixteen(s, _) => subject(out, s, &run.state),
+        Expected::Part(p) => subject(out, Subject::Word(p.kind, p.n), run.state.view()),
+        Expected::Sixteen(s, _) => subject(out, s, run.state.view()),
         Expected::Answer(_) => phrases::answer(out, run.end),
-        Expected::Steps(_) => figures::line(out, "steps", u64::from(run.steps)),
-        Expected::Cells(_) => figures::line(out, "cells", run.counts.accesses),
-        Expected::Clipped(_) => figures::line(out, "clipped", run.counts.clipped),
+        Expected::Steps(_) => figures::line(out, b"steps ", u64::from(run.steps)),
+        Expected::Cells(_) => figures::line(out, b"cells ", run.counts.accesses),
+        Expected::Clipped(_) => figures::line(out, b"clipped ", run.counts.clipped),
         Expected::Banks(_) => print_banks(out, &run.banks),
     }
 }
@@ -82,6 +82,7 @@ fn unsaid(out: Stdout, answers: bool, end: End) -> Tally {
 }
 
 // Goes over the lines, which are good: those that begin with a dot have set the start. `answers` says that one of them has an answer.
+#[inline(never)]
 pub fn compare(out: Stdout, run: &Run, answers: bool, text: &[u8]) -> Tally {
     let mut room = [0; 65536];
     let mut t = unsaid(out, answers, run.end);

@@ -60,8 +60,7 @@ fn place_line(out: Stdout, name: &str, places: &[u32]) {
 fn addresses(out: Stdout, places: &[u32; 22], code: usize) {
     for index in places.iter().filter_map(|&p| byte_of(p)) {
         let _ = print!(out; "0x{:04x}", address_of(index, code));
-        phrases::store_byte(out, index);
-        text(out, b"\n");
+        phrases::store_byte(out, b" bank ", index, b" low\n", b" high\n");
     }
 }
 
@@ -73,16 +72,23 @@ fn base_register(places: &Places) -> Option<usize> {
     }
 }
 
-// What a step touches that is not refused, in a state of zeros but for its base register. The places of a step that has none do not depend on what a register holds.
-fn touched(out: Stdout, t: Triple, base: u32, register: Option<usize>) {
+// The places of a step, and how many cells it enters, in a state of zeros but for its base register. The places of a step that has none do not depend on what a register holds.
+#[inline(never)]
+fn done(t: Triple, base: u32, register: Option<usize>) -> (Places, u64) {
     let mut state = State::zeros();
     if let Some(n) = register {
         state.set_word(Kind::A, n, base);
     }
     let places = calls::places_of(&state, t);
+    (places, calls::step(&mut state, t).counts.accesses)
+}
+
+// What a step touches that is not refused.
+fn touched(out: Stdout, t: Triple, base: u32, register: Option<usize>) {
+    let (places, cells) = done(t, base, register);
     place_line(out, "reads", places.read());
     place_line(out, "writes", places.written());
-    line(out, "cells", calls::step(&mut state, t).counts.accesses);
+    line(out, b"cells ", cells);
     if places.all.iter().any(|&p| in_store(p)) {
         registers::word(out, Kind::A, register.unwrap_or(0), base);
         addresses(out, &places.all, (base >> 30) as usize);
@@ -90,10 +96,11 @@ fn touched(out: Stdout, t: Triple, base: u32, register: Option<usize>) {
 }
 
 // Explains a step whose base register holds this word, and answers the status: 1 where the step is refused.
+#[inline(never)]
 pub fn explain(out: Stdout, t: Triple, base: u32) -> u32 {
     phrases::step_text(out, t);
     let _ = println!(out; "\nword 0x{:08x}", t.word);
-    let places = calls::places_of(&State::zeros(), t);
+    let (places, _) = done(t, 0, None);
     match places.end {
         End::Refused(Refusal::Foreign | Refusal::Undocumented) => {}
         _ => meaning(out, t.word),

@@ -1,6 +1,7 @@
 // The program desk: runs listings, checks what one leaves, explains an instruction. docs/LISTING.md says what is read and written, byte for byte.
 #![tactic(auto)]
 
+// Functions with a room, or a state, are kept out of line: so the stack has it only while it is in use.
 mod argument;
 mod asked;
 mod calls;

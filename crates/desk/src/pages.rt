@@ -37,6 +37,7 @@ pub fn started(start: Option<Start>, o: Order<'_>) -> Option<Start> {
 }
 
 // Looks at the text of a page.
+#[inline(never)]
 fn look<C: Contents>(text: &[u8], contents: &mut C) -> Result<(), Wrong> {
     let mut room = [0; 65536];
     for (i, raw) in text.split(|&b| feed(b)).enumerate() {

@@ -1,5 +1,6 @@
 // The command `run`: what is written of each listing, what its steps did, and what they left.
 use crate::asked::Options;
+use crate::expected::dotted;
 use crate::lines::clean;
 use crate::listing::Listing;
 use crate::pages::Page;
@@ -10,19 +11,24 @@ use orders::Order;
 use orders::read::order;
 use shown::cells::print_banks;
 use shown::registers::registers;
-use shown::state::State;
 use shown::subjects::subject;
 use shown::total;
+use shown::view::View;
 use std::io::Stdout;
 use text::args;
 use text::find::feed;
 use text::print::text;
 
 // What the .show lines of a listing ask for. It is gone over again, so that they need not be put down.
-fn shows(out: Stdout, text: &[u8], state: &State) {
+#[inline(never)]
+fn shows(out: Stdout, text: &[u8], state: View<'_>) {
     let mut room = [0; 65536];
     for raw in text.split(|&b| feed(b)) {
-        if let Ok(Some(Order::Show(s))) = order(clean(raw, &mut room)) {
+        let line = clean(raw, &mut room);
+        if !dotted(line) {
+            continue;
+        }
+        if let Ok(Some(Order::Show(s))) = order(line) {
             subject(out, s, state);
         }
     }
@@ -39,13 +45,14 @@ fn heading(out: Stdout, many: bool, file: &[u8]) {
 
 // The last part.
 fn print_left(out: Stdout, all: bool, page: Page<'_>, run: &Run) {
-    registers(out, all, &run.state);
-    shows(out, page.text, &run.state);
+    registers(out, all, run.state.view());
+    shows(out, page.text, run.state.view());
     total::lines(out, run.end, run.steps, run.counts);
     print_banks(out, &run.banks);
 }
 
 // The listing that argument i names: its steps, the last part, and the status.
+#[inline(never)]
 fn one(rt: HostRuntime, o: Options, many: bool, i: usize) -> Result<u32, Told> {
     let out = rt.stdout();
     let mut name = [0; 65536];

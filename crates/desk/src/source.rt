@@ -1,5 +1,5 @@
 // A file of the arguments, or standard input, read whole.
-ghost use Rattle.std.specs.Prelude.{IfOk};
+ghost use Rattle.std.specs.Prelude.{◌≤◌, IfOk, length};
 ghost use Rattle.text.specs.Counts.{IsPrefixLen};
 
 use crate::tell::Wrong;
@@ -12,7 +12,9 @@ use text::input::fill;
 const MOST: usize = 65535;
 
 // Puts the name that argument i is at the start of room, and answers it. Of one that is too long for any file its first bytes are enough.
-pub fn name<'a>(rt: HostRuntime, i: usize, room: &'a mut [u8]) -> &'a [u8] {
+pub fn name<'a>(rt: HostRuntime, i: usize, room: &'a mut [u8]) -> &'a [u8]
+    ensures { length result.now ≤ length room.old }
+{
     let n = args::beginning(rt, i, room);
     &room[..n]
 }
@@ -39,7 +41,9 @@ fn filled(rt: HostRuntime, name: &[u8], room: &mut [u8]) -> Result<usize, Wrong>
 }
 
 // The bytes of the file of a name, or of standard input, put into room, which has one byte more than a file may have.
-pub fn read<'a>(rt: HostRuntime, name: &[u8], room: &'a mut [u8]) -> Result<&'a [u8], Wrong> {
+pub fn read<'a>(rt: HostRuntime, name: &[u8], room: &'a mut [u8]) -> Result<&'a [u8], Wrong>
+    ensures { IfOk result (λ text. length text.now ≤ length room.old) }
+{
     let n = filled(rt, name, room)?;
     if n > MOST {
         return Err(Wrong::TooLong);

@@ -33,6 +33,7 @@ pub fn usage(err: Stderr) -> Told {
     Told
 }
 
+#[inline(never)]
 fn line(err: Stderr, text: &[u8], i: usize, fault: Fault) {
     let mut room = [0; 65536];
     let line = text.split(|&b| feed(b)).nth(i).unwrap_or(&[]);

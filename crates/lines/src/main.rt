@@ -1,6 +1,7 @@
 // Turns instruction words into lines, or lines into words: docs/NAMES.md says what is read and written.
 #![tactic(auto)]
 
+// Functions with a room are kept out of line: so the stack has it only while it is in use.
 mod fault;
 mod report;
 mod to_lines;
@@ -43,6 +44,14 @@ fn run(rt: HostRuntime, job: Job, room: &mut [u8; 65536]) -> Result<(), Fault<'_
     turn(job, text, &mut rt.stdout())
 }
 
+// Of the file's name no more is shown than fits.
+#[inline(never)]
+fn told(rt: HostRuntime, job: Job, fault: Fault<'_>) {
+    let mut file = [0u8; 4096];
+    let n = args::beginning(rt, 2, &mut file);
+    report::tell(rt.stderr(), job, &file[..n], fault);
+}
+
 fn main(rt: HostRuntime) {
     let Some(job) = asked(rt) else {
         say(
@@ -53,9 +62,6 @@ fn main(rt: HostRuntime) {
     };
     let mut room = [0u8; 65536];
     if let Err(fault) = run(rt, job, &mut room) {
-        // Of the file's name no more is shown than fits.
-        let mut file = [0u8; 4096];
-        let n = args::beginning(rt, 2, &mut file);
-        report::tell(rt.stderr(), job, &file[..n], fault);
+        told(rt, job, fault);
     }
 }

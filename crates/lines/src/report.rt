@@ -5,7 +5,7 @@ use orders::cursor::text;
 use orders::tell::examples;
 use std::io::Stderr;
 use terms::{End, Refusal};
-use text::find::{feed, find};
+use text::find::{What, find};
 use text::say::{quote, say};
 use text::squeeze::clean;
 
@@ -34,12 +34,13 @@ fn reason(err: Stderr, why: Why, line: &[u8]) {
 }
 
 // The line, what is left of the text at fault, and the reason.
+#[inline(never)]
 fn place(err: Stderr, at: Place<'_>) {
     let mut room = [0u8; 65536];
     let n = clean(at.text, &mut room);
     let left = &room[..n];
     let _ = print!(err; "line {}: ", at.line);
-    quote(err, &left[..find(left, 0, feed)], 64);
+    quote(err, &left[..find(left, 0, What::Feed)], 64);
     say(err, b": ");
     reason(err, at.why, left);
 }

@@ -21,12 +21,13 @@ use Rattle.pieces.proofs.Chunks.{get_chunk}
 use Rattle.units.proofs.Units.{outcome_of_lem}
 use Rattle.machine.specs.Answers.{run_outcome}
 use Rattle.machine.specs.declared.Ran.{Ran}
-use Rattle.machine.proofs.Turn.{inside, outside, turn, halt, cheap}
+use Rattle.machine.specs.Inner.Turns.{covered_by}
+use Rattle.machine.proofs.Turn.{in_triples, inside, outside, turn, halt, cheap}
 
 -- the list cut into triples, of which the budget covers so many
-module _ (ws : List ℕ) (b : ℕ) {most : ℕ} {cs : List (List ℕ)} (front : cs ≡ first_chunks 3 (length ws / 3) ws) (size : length cs ≡ length ws / 3) (e : most ≡ min (length cs) b) where
+module _ (ws : List ℕ) (b : ℕ) {most : ℕ} {cs : List (List ℕ)} (front : cs ≡ first_chunks 3 (length ws / 3) ws) (size : length cs ≡ length ws / 3) (e : most ≡ covered_by (length ws) b / 3) where
   pub till : most ≡ min (length ws / 3) b
-  till = e ∙ ap (λ (n : ℕ). min n b) size
+  till = e ∙ in_triples (length ws) b
 
   pub enough : most ≤ length ws / 3
   enough = rw till (min-le_left (length ws / 3) b)
@@ -50,20 +51,25 @@ module _ (ws : List ℕ) (b : ℕ) {most : ℕ} {cs : List (List ℕ)} (front : 
 
 -- after n of the triples
 pub record Turned (ws : List ℕ) (b most : ℕ) (s₀ s : State) (k : Counts) (steps n : ℕ) : Type 0 where
+  pub till : most ≡ covered_by (length ws) b / 3
   pub told : steps ≡ n
+  pub within : n ≤ most
   pub counted : Within n k
   pub same : run_from b (triples (drop (3 * n) ws)) n k s ≡ run_from b (triples ws) 0 none s₀
 
-pub unturned : {ws : List ℕ} {b most : ℕ} {s : State} {k : Counts} → k ≡ none → Turned ws b most s s k 0 0
-unturned e = record { told = refl; counted = rw e (within_none 0); same = rw e refl }
+pub unturned : {ws : List ℕ} {b most : ℕ} {s : State} {k : Counts} → most ≡ covered_by (length ws) b / 3 → k ≡ none → Turned ws b most s s k 0 0
+unturned t e = record { till = t; told = refl; within = omega arith; counted = rw e (within_none 0); same = rw e refl }
 
-module _ {ws : List ℕ} {b most : ℕ} {s₀ s : State} {k : Counts} {steps n : ℕ} (till : most ≡ min (length ws / 3) b) (q : Turned ws b most s₀ s k steps n) where
+module _ {ws : List ℕ} {b most : ℕ} {s₀ s : State} {k : Counts} {steps n : ℕ} (q : Turned ws b most s₀ s k steps n) where
+  covers : most ≡ min (length ws / 3) b
+  covers = q.till ∙ in_triples (length ws) b
+
   thrice : 3 * n ≡ n * 3
   thrice = omega arith
 
   -- in a turn a whole triple is left, and the budget is not spent
-  here : n < most → (3 * n + 2 < length ws) × (n < b)
-  here = inside ws b most (3 * n) n till thrice
+  pub here : n < most → (3 * n + 2 < length ws) × (n < b) × (n + 1 ≤ most)
+  here l = let h = inside ws b most (3 * n) n covers thrice l in (h.0, h.1, omega (arith, l))
 
   -- x and t are the triple's answer and the state after it
   module _ (l : n < most) (x : Result Counted Refusal) (t : State)
@@ -89,7 +95,9 @@ module _ {ws : List ℕ} {b most : ℕ} {s₀ s : State} {k : Counts} {steps n :
     next m d f =
         let on : 3 * (n + 1) ≡ 3 * n + 3 = omega arith in
         record {
+          till = q.till;
           told = ap (λ (i : ℕ). i + 1) q.told;
+          within = (here l).2;
           counted = rw f (together m d);
           same = rw (on, f) (sym (turn b ws (3 * n) n k s (here l).0 x t outcome_is unspent m d) ∙ q.same);
         }
@@ -98,8 +106,8 @@ module _ {ws : List ℕ} {b most : ℕ} {s₀ s : State} {k : Counts} {steps n :
     off j d = rw q.told (sym (halt b ws (3 * n) n k s (here l).0 x t outcome_is unspent j d) ∙ q.same)
 
   -- after the last turn: as far as the budget covers the list
-  pub last : length ws % 3 ≡ 0 → n ≡ most → ended (number (cond (ltb most (length ws / 3)) E.Spent E.Done)) steps k s ≡ run_from b (triples ws) 0 none s₀
-  last whole e = rw q.told (outside ws b most (3 * n) n till thrice k s whole e ∙ q.same)
+  pub last : length ws % 3 ≡ 0 → most ≤ n → ended (number (cond (ltb most (length ws / 3)) E.Spent E.Done)) steps k s ≡ run_from b (triples ws) 0 none s₀
+  last whole l = rw q.told (outside ws b most (3 * n) n covers thrice k s whole (omega (arith, q.within, l)) ∙ q.same)
 
 -- an answer that is equal to one that was shown right
 pub said : {o : RunOutcome} {x y : Ran} (s : State) → x ≡ y → run_outcome y s ≡ o → run_outcome x s ≡ o

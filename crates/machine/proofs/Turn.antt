@@ -18,6 +18,7 @@ use Rattle.model.specs.Run.{RunOutcome, triples, ended, run_from}
 use Rattle.model.proofs.Cells.{triple_within}
 use Rattle.model.proofs.Triples.{triples_at, triples_end}
 use Rattle.units.specs.Inner.Answers.{answer_outcome}
+use Rattle.machine.specs.Inner.Turns.{covered_by}
 use Rattle.terms.specs.Answers.{number}
 use Rattle.terms.specs.Inner.Runs.{end_of, counts_in, amount}
 use Rattle.terms.specs.Counts.{plus, Within}
@@ -53,6 +54,27 @@ module _ (b : ℕ) (ws : List ℕ) (i n : ℕ) (k : Counts) (s : State) where
       pub halt : (j : Refusal) → x ≡ Err j → run_from b (triples (drop i ws)) n k s ≡ ended (number (end_of x)) n k t
       unfolding run_from
       halt j d = rw (triples_at ws i h, ne_eqb n b f, ← e, d) (stops j _ _)
+
+pub covered_le : (count b : ℕ) → covered_by count b ≤ 3 * b
+covered_le count b = go (ltb (count / 3) b) refl
+  where
+    go : (t : Bool) → ltb (count / 3) b ≡ t → cond t (3 * (count / 3)) (3 * b) ≤ 3 * b
+    go true e = let l = ltb-true (count / 3) b e in omega arith
+    go false e = omega arith
+
+-- the words that the budget covers, as triples
+pub in_triples : (count b : ℕ) → covered_by count b / 3 ≡ min (count / 3) b
+in_triples count b = go (ltb (count / 3) b) refl
+  where
+    go : (t : Bool) → ltb (count / 3) b ≡ t → cond t (3 * (count / 3)) (3 * b) / 3 ≡ min (count / 3) b
+    go true e =
+        let l = ltb-true (count / 3) b e in
+        let u : 3 * (count / 3) / 3 ≡ count / 3 = omega arith in
+        u ∙ sym (min-eq_left (omega (arith, l)))
+    go false e =
+        let l = ltb-false (count / 3) b e in
+        let u : 3 * b / 3 ≡ b = omega arith in
+        u ∙ sym (min-eq_right (omega (arith, l)))
 
 -- what the budget covers, so many triples: within it a whole triple is left and the budget is not spent; at its end all is done, or the budget is spent
 module _ (ws : List ℕ) (b most i n : ℕ) (till : most ≡ min (length ws / 3) b) (at : i ≡ n * 3) where

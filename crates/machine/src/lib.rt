@@ -1,13 +1,13 @@
 // The machine on the six lent pieces: the list call, and the single call, which is a list of one triple.
 #![tactic(auto)]
 
-ghost use Rattle.std.specs.Prelude.{◌≡◌, cond, ◌%◌, min, ltb, length};
+ghost use Rattle.std.specs.Prelude.{◌≡◌, cond, ◌%◌, ltb, length};
 ghost use Rattle.pieces.specs.State.{state};
 ghost use Rattle.model.specs.Step.{step_of};
 ghost use Rattle.model.specs.Run.{triples, run_from, run_of};
 ghost use Rattle.terms.specs.Counts.{none};
 ghost use Rattle.machine.specs.Answers.{step_outcome, run_outcome};
-ghost use Rattle.machine.specs.Inner.Turns.{ran_of};
+ghost use Rattle.machine.specs.Inner.Turns.{covered_by, ran_of};
 
 use terms::{Counts, End};
 
@@ -32,11 +32,13 @@ pub fn report(end: End, steps: u32, counts: Counts) -> Ran
     Ran { end, steps, counts }
 }
 
-// How many of a list's triples the budget covers.
+// How many of a list's words the budget covers: three for each step.
 pub fn covered(count: usize, budget: u32) -> usize
-    ensures { result ≡ min count budget }
+    ensures { result ≡ covered_by count budget }
 {
-    count.min(budget as usize)
+    let all = count / 3;
+    let most = budget as usize;
+    if all < most { 3 * all } else { 3 * most }
 }
 
 // Why a run came to its end that did n of a list's triples.
@@ -62,7 +64,7 @@ fn turns(
         ≡ run_from budget (triples words.now) 0 none (state ds.old a.old r.old c.old vc.old v.old) }
 {
     let all = words.as_chunks::<3>().0;
-    let most = covered(all.len(), budget);
+    let most = covered(words.len(), budget) / 3;
     let mut counts = Counts::default();
     let mut steps = 0;
     for triple in &all[..most] {

@@ -19,7 +19,10 @@ impl<'a> Bytes<'a> {
             return Err(from.fault(Wanted::Byte));
         }
         for (n, c) in from.texts().enumerate() {
-            c.read(byte, Wanted::Byte)?;
+            // Not by `read`, which hands a fault or a byte back for each: a line may have thousands.
+            if byte(c.text()).is_none() {
+                return Err(c.fault(Wanted::Byte));
+            }
             if n >= room {
                 return Err(c.fault(Wanted::NoByteBeyond));
             }

@@ -3,7 +3,7 @@ ghost use Rattle.std.specs.Prelude.{◌≡◌, ◌==◌, ◌+◌, ◌-◌, ◌�
 ghost use Rattle.std.specs.Iterator.{at_most};
 
 use crate::{Fault, Wanted};
-use text::find::{find, gap};
+use text::find::{What, find};
 
 #[derive(Clone, Copy)]
 pub(crate) struct Cursor<'a> {
@@ -41,7 +41,7 @@ impl<'a> Cursor<'a> {
     fn behind(self) -> usize
         ensures { (self.entry.at ≤ result) × (result ≤ length self.entry.line.now) }
     {
-        find(self.line, self.at, gap)
+        find(self.line, self.at, What::Gap)
     }
 
     // The text, of no bytes at the line's end.
@@ -66,10 +66,9 @@ impl<'a> Cursor<'a> {
         Texts { rest: self }
     }
 
-    // What stands before the text, without the space between.
+    // What stands before the text, with the space between.
     pub(crate) fn before(self) -> &'a [u8] {
-        let before = &self.line[..self.at];
-        before.strip_suffix(b" ").unwrap_or(before)
+        &self.line[..self.at]
     }
 
     // The text is at fault: the whole line where it is missing.

@@ -43,10 +43,14 @@ fn sided(c: Cursor) -> Result<(u32, u32), Fault> {
 // The side index without `@` is the field SRC2.
 pub(crate) fn step(line: &[u8]) -> Result<Triple, Fault> {
     let sign = Cursor::first(line).texts().find(|c| c.is(b"@"));
-    let head = sign.map_or(line, |c| c.before());
-    if head.is_empty() {
+    let before = sign.map_or(line, |c| c.before());
+    if before.is_empty() {
         return Err(whole(line, Wanted::Name));
     }
+    let head = match before {
+        [rest @ .., b' ' | b'\n'] => rest,
+        _ => before,
+    };
     // The head begins where the line does, so that places in it are places in the line.
     let word = instruction(head).map_err(|wanted| whole(head, wanted))?;
     let (side, mask) = match sign {

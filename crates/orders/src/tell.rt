@@ -6,16 +6,16 @@ use crate::cursor::text;
 use crate::word::spell;
 use crate::{Fault, Wanted};
 use std::io::Stderr;
-use text::find::{feed, find};
+use text::find::{What, find};
 use text::say::{quote, say};
 
-// Puts the line of the opcode's word whose other bits are 0 at the start of out, and answers its length without line feed, if it has the name.
-// (No heap, as in word.rt.)
+// Puts the line of the opcode's word whose other bits are 0 at the start of out, and answers its length without line feed, if it has the name: an opcode
+// that is not documented has the empty one. (No heap, as in word.rt.)
 fn example(op: u32, name: &[u8], out: &mut [u8]) -> Option<usize>
     ensures { IfSome result (λ n. IsPrefixLen n out.new) }
 {
-    let n = spell(op << 24, out).ok()?;
-    let end = find(&out[..n], 0, feed);
+    let n = spell(op << 24, out).unwrap_or(0);
+    let end = find(&out[..n], 0, What::Feed);
     (text(&out[..end], 0) == name).then_some(end)
 }
 

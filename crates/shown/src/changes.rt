@@ -6,8 +6,9 @@ use crate::figures::{access, bytes_change};
 use crate::parts;
 use crate::places::{Place, place_of};
 use crate::registers::{named, vector_named};
-use crate::state::State;
-use orders::{Field, Kind};
+use crate::subjects::bytes_of;
+use crate::view::View;
+use orders::{Field, Kind, Subject};
 use std::array::from_fn;
 use std::io::Stdout;
 use terms::Half;
@@ -26,7 +27,7 @@ pub struct Noted {
 // ---- before the step
 
 // The word of the register that a place lies in, or its byte of the store. A vector is noted by itself.
-fn word_at(state: &State, place: Option<Place>) -> u32 {
+fn word_at(state: View<'_>, place: Option<Place>) -> u32 {
     match place {
         Some(Place::Half(kind, n, _)) => state.word(kind, n),
         Some(Place::Byte(i)) => u32::from(state.byte(i)),
@@ -34,7 +35,7 @@ fn word_at(state: &State, place: Option<Place>) -> u32 {
     }
 }
 
-fn words_at(state: &State, places: &[Option<Place>; 22]) -> [u32; 22] {
+fn words_at(state: View<'_>, places: &[Option<Place>; 22]) -> [u32; 22] {
     from_fn(|i| word_at(state, places[i]))
 }
 
@@ -47,10 +48,10 @@ fn vector_among(places: &[Option<Place>; 22]) -> Option<usize> {
 }
 
 // Takes down what a step will write: its places, as swap::places lists them in the state before it, and the first place of all that it touches.
-pub fn note(state: &State, first: u32, written: &[u32]) -> Noted {
+pub fn note(state: View<'_>, first: u32, written: &[u32]) -> Noted {
     let places = from_fn(|i| written.get(i).and_then(|&p| place_of(p)));
     let vector = match vector_among(&places) {
-        Some(n) => state.vector(n),
+        Some(n) => bytes_of(state, Subject::Vector(n)),
         None => [0; 16],
     };
     // The first place of a load or store lies in its base register; of other steps the code is not used.
@@ -87,7 +88,7 @@ fn part_change(out: Stdout, kind: Kind, n: usize, part: Field, old: u32, new: u3
     }
 }
 
-fn vector_change(out: Stdout, n: usize, old: &[u8; 16], new: &[u8; 16]) {
+fn vector_change(out: Stdout, n: usize, old: &[u8], new: &[u8]) {
     if old != new {
         text(out, b"  ");
         vector_named(out, n);
@@ -96,7 +97,7 @@ fn vector_change(out: Stdout, n: usize, old: &[u8; 16], new: &[u8; 16]) {
 }
 
 // The bytes of the store have one line for all.
-fn change(out: Stdout, before: &Noted, place: Place, old: u32, state: &State) {
+fn change(out: Stdout, before: &Noted, place: Place, old: u32, state: View<'_>) {
     match place {
         Place::Half(kind, n, half) => {
             let new = state.word(kind, n);
@@ -104,7 +105,7 @@ fn change(out: Stdout, before: &Noted, place: Place, old: u32, state: &State) {
                 part_change(out, kind, n, part, old, new);
             }
         }
-        Place::Vector(n) => vector_change(out, n, &before.vector, &state.vector(n)),
+        Place::Vector(n) => vector_change(out, n, &before.vector, state.vector(n)),
         Place::Byte(_) => {}
     }
 }
@@ -116,47 +117,52 @@ fn as_bytes(words: &[u32; 22]) -> [u8; 16] {
     from_fn(|i| words[i].to_le_bytes()[0])
 }
 
-// How many bytes of the store are written: a word is four, a row and a column are sixteen.
+// How many bytes of the store are written: a word is four, a row and a column are sixteen. They stand before all else that is written.
 fn stored(places: &[Option<Place>; 22]) -> usize
     ensures { result ≤ 16 }
 {
-    let bytes = places
-        .iter()
-        .filter(|place| matches!(place, Some(Place::Byte(_))));
-    bytes.count().min(16)
-}
-
-// What an access of so many bytes is, by its first two addresses: those of a row lie in one row.
-fn access_name(n: usize, first: usize, second: usize) -> &'static str {
-    if n == 4 {
-        "word"
-    } else if first / 16 == second / 16 {
-        "row"
-    } else {
-        "column"
+    match (places[3], places[15]) {
+        (_, Some(Place::Byte(_))) => 16,
+        (Some(Place::Byte(_)), _) => 4,
+        _ => 0,
     }
 }
 
-// The bytes of the store stand before all else that is written.
-fn store_change(out: Stdout, before: &Noted, state: &State) {
-    let [Some(Place::Byte(i)), Some(Place::Byte(j)), ..] = before.places else {
-        return;
-    };
+// The index of a byte of the store, 0 of another place.
+fn index_of(place: Option<Place>) -> usize {
+    match place {
+        Some(Place::Byte(i)) => i,
+        _ => 0,
+    }
+}
+
+// What an access of so many bytes is, by its first two addresses: those of a row lie in one row.
+fn access_name(n: usize, first: usize, second: usize) -> &'static [u8] {
+    if n == 4 {
+        b"word "
+    } else if first / 16 == second / 16 {
+        b"row "
+    } else {
+        b"column "
+    }
+}
+
+fn store_change(out: Stdout, before: &Noted, state: View<'_>) {
     let n = stored(&before.places);
     let old = as_bytes(&before.words);
     let new = as_bytes(&words_at(state, &before.places));
     if old[..n] == new[..n] {
         return;
     }
-    let first = address_of(i, before.code);
-    let second = address_of(j, before.code);
+    let first = address_of(index_of(before.places[0]), before.code);
+    let second = address_of(index_of(before.places[1]), before.code);
     text(out, b"  ");
     access(out, access_name(n, first, second), first, before.code);
     bytes_change(out, &old[..n], &new[..n]);
 }
 
 // The lines of what the step has changed.
-pub fn changes(out: Stdout, before: &Noted, state: &State) {
+pub fn changes(out: Stdout, before: &Noted, state: View<'_>) {
     store_change(out, before, state);
     for (&place, &old) in before.places.iter().zip(&before.words) {
         if let Some(place) = place {

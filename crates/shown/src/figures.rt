@@ -2,13 +2,14 @@
 use std::io::Stdout;
 use text::print::text;
 
-// A name and a number, as a line: `steps 3`.
-pub fn line(out: Stdout, name: &str, n: u64) {
-    let _ = println!(out; "{name} {n}");
+// A name and a number behind it, as a line: `steps 3`, where the name is `steps `.
+pub fn line(out: Stdout, name: &[u8], n: u64) {
+    text(out, name);
+    let _ = println!(out; "{n}");
 }
 
 // The stride of a code from 0 to 3.
-pub fn stride(code: usize) -> &'static str {
+pub fn stride_text(code: usize) -> &'static str {
     match code {
         0 => "0x10",
         1 => "0x20",
@@ -17,9 +18,15 @@ pub fn stride(code: usize) -> &'static str {
     }
 }
 
-// An access of the store by its first address: `row 0x0050 stride 0x20 `.
-pub fn access(out: Stdout, name: &str, address: usize, code: usize) {
-    let _ = print!(out; "{name} 0x{address:04x} stride {} ", stride(code));
+// The same, written.
+pub fn stride(out: Stdout, code: usize) {
+    let _ = print!(out; "{}", stride_text(code));
+}
+
+// An access of the store by its first address: `row 0x0050 stride 0x20 `, where the name is `row `.
+pub fn access(out: Stdout, name: &[u8], address: usize, code: usize) {
+    text(out, name);
+    let _ = print!(out; "0x{address:04x} stride {} ", stride_text(code));
 }
 
 fn each(out: Stdout, b: &[u8]) {

@@ -23,7 +23,10 @@ fn name(part: Field) -> &'static str {
 fn value(out: Stdout, part: Field, word: u32) {
     let n = bits(part, word);
     let _ = match part {
-        Field::Stride => print!(out; " {}", stride(n as usize)),
+        Field::Stride => {
+            text(out, b" ");
+            return stride(out, n as usize);
+        }
         Field::Sign | Field::Zero | Field::End => print!(out; " {n}"),
         Field::Whole => print!(out; " 0x{n:08x}"),
         _ => print!(out; " 0x{n:04x}"),

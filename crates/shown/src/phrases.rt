@@ -20,19 +20,11 @@ fn half(kind: Kind, half: Half) -> &'static str {
     }
 }
 
-// The half of a cell that a byte of the store is, by its index.
-fn half_of(index: usize) -> &'static str {
-    if index % 2 == 0 { "low" } else { "high" }
-}
-
-// A byte of the store by its index: ` bank 3 cell 128 low`.
-pub fn store_byte(out: Stdout, index: usize) {
-    let _ = print!(out;
-        " bank {} cell {} {}",
-        index / 512,
-        index % 512 / 2,
-        half_of(index)
-    );
+// A byte of the store by its index: its bank behind the name, its cell, and which half of that it is.
+pub fn store_byte(out: Stdout, name: &[u8], index: usize, low: &[u8], high: &[u8]) {
+    text(out, name);
+    let _ = print!(out; "{} cell {}", index / 512, index % 512 / 2);
+    text(out, if index % 2 == 0 { low } else { high });
 }
 
 // A place by its number.
@@ -46,9 +38,7 @@ pub fn place(out: Stdout, number: u32) {
             let _ = print!(out; "$v{n}");
         }
         Some(Place::Byte(i)) => {
-            text(out, b"store");
-            store_byte(out, i);
-            text(out, b" byte");
+            store_byte(out, b"store bank ", i, b" low byte", b" high byte");
         }
         None => {}
     }
@@ -68,13 +58,16 @@ fn reason(end: End) -> &'static str {
     }
 }
 
-pub fn refused(out: Stdout, end: End) {
-    let _ = print!(out; "refused, {} ({})", u32::from(end), reason(end));
+// By its number, or by what has one.
+pub fn refused<N: Into<u32>>(out: Stdout, answer: N) {
+    let n: u32 = answer.into();
+    let _ = print!(out; "refused, {n} ({})", reason(End::from(n)));
 }
 
 // The line of the answer.
-pub fn answer(out: Stdout, end: End) {
-    let _ = println!(out; "answer {} # {}", u32::from(end), reason(end));
+pub fn answer<N: Into<u32>>(out: Stdout, answer: N) {
+    let n: u32 = answer.into();
+    let _ = println!(out; "answer {n} # {}", reason(End::from(n)));
 }
 
 // The word's line, without its line feed; a word that has none in eight digits.

@@ -1,7 +1,9 @@
 // Registers, each on a line, as the last part of a run shows them.
+ghost use Rattle.std.specs.Prelude.{◌≡◌, ◌+◌, ◌<◌, ◌≤◌, [], length, take, drop};
+
 use crate::figures::bytes;
 use crate::parts::show;
-use crate::state::State;
+use crate::view::View;
 use orders::{Field, Kind};
 use std::io::Stdout;
 use text::print::text;
@@ -53,6 +55,17 @@ pub fn vector(out: Stdout, n: usize, value: &[u8]) {
     text(out, b"\n");
 }
 
+// The sixteen bytes from a place on; none where there are not so many.
+pub fn sixteen(from: &[u8], at: usize) -> &[u8]
+    ensures there { at + 16 ≤ length from.now → result.now ≡ take 16 (drop at from.now) }
+    ensures none { length from.now < at + 16 → result.now ≡ [] }
+{
+    match from.get(at..) {
+        Some(rest) => rest.get(..16).unwrap_or(&[]),
+        None => &[],
+    }
+}
+
 // Those of a kind that are not 0, or all.
 fn words(out: Stdout, all: bool, kind: Kind, values: &[u32]) {
     for (n, &value) in values.iter().enumerate() {
@@ -62,17 +75,17 @@ fn words(out: Stdout, all: bool, kind: Kind, values: &[u32]) {
     }
 }
 
-fn vectors(out: Stdout, all: bool, state: &State) {
+fn vectors(out: Stdout, all: bool, state: View<'_>) {
     for n in 0..32 {
         let value = state.vector(n);
-        if all || value != [0; 16] {
-            vector(out, n, &value);
+        if all || value.iter().any(|&b| b != 0) {
+            vector(out, n, value);
         }
     }
 }
 
 // The registers that are not 0, or all.
-pub fn registers(out: Stdout, all: bool, state: &State) {
+pub fn registers(out: Stdout, all: bool, state: View<'_>) {
     for kind in [Kind::A, Kind::R, Kind::C, Kind::Vc] {
         words(out, all, kind, state.words(kind));
     }

@@ -3,6 +3,7 @@ ghost use Rattle.std.specs.Prelude.{◌≡◌, ◌<◌, ◌≤◌, get_or, repli
 ghost use Rattle.pieces.specs.Inner.Regs.{vreg_of, with_vreg};
 ghost use Rattle.orders.specs.declared.Kind.TheVariants.{A, R, C, Vc};
 
+use crate::view::View;
 use orders::Kind;
 
 // The data store, and the registers $a, $r, $c, $vc and $v.
@@ -43,6 +44,25 @@ impl State {
         }
     }
 
+    // The six pieces, looked at.
+    pub fn view(&self) -> View<'_>
+        ensures store { result.ds.now ≡ self.now.ds }
+        ensures a { result.a.now ≡ self.now.a }
+        ensures r { result.r.now ≡ self.now.r }
+        ensures c { result.c.now ≡ self.now.c }
+        ensures vc { result.vc.now ≡ self.now.vc }
+        ensures v { result.v.now ≡ self.now.v }
+    {
+        View {
+            ds: &self.ds,
+            a: &self.a,
+            r: &self.r,
+            c: &self.c,
+            vc: &self.vc,
+            v: &self.v,
+        }
+    }
+
     // The registers of a kind.
     pub fn words(&self, kind: Kind) -> &[u32]
         ensures a { kind ≡ A → result.now ≡ self.now.a }
@@ -50,12 +70,7 @@ impl State {
         ensures c { kind ≡ C → result.now ≡ self.now.c }
         ensures vc { kind ≡ Vc → result.now ≡ self.now.vc }
     {
-        match kind {
-            Kind::A => &self.a,
-            Kind::R => &self.r,
-            Kind::C => &self.c,
-            Kind::Vc => &self.vc,
-        }
+        self.view().words(kind)
     }
 
     // What the register n of a kind holds, 0 where there is none.
@@ -65,7 +80,7 @@ impl State {
         ensures c { kind ≡ C → result ≡ get_or self.now.c n 0 }
         ensures vc { kind ≡ Vc → result ≡ get_or self.now.vc n 0 }
     {
-        self.words(kind).get(n).copied().unwrap_or(0)
+        self.view().word(kind, n)
     }
 
     // The register n of a kind holds this value, if there is one.
@@ -109,6 +124,6 @@ impl State {
     pub fn byte(&self, index: usize) -> u8
         ensures { result ≡ get_or self.now.ds index 0 }
     {
-        self.ds.get(index).copied().unwrap_or(0)
+        self.view().byte(index)
     }
 }

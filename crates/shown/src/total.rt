@@ -2,17 +2,18 @@
 use crate::figures::line;
 use crate::phrases::answer;
 use std::io::Stdout;
-use terms::{Counts, End};
+use terms::Counts;
 
 // The answer, the steps done, and what they count: their cell accesses, and their clipped components.
-pub fn lines(out: Stdout, end: End, steps: u32, counts: Counts) {
+pub fn lines<N: Into<u32>>(out: Stdout, end: N, steps: u32, counts: Counts) {
     answer(out, end);
-    line(out, "steps", u64::from(steps));
-    line(out, "cells", counts.accesses);
-    line(out, "clipped", counts.clipped);
+    line(out, b"steps ", u64::from(steps));
+    line(out, b"cells ", counts.accesses);
+    line(out, b"clipped ", counts.clipped);
 }
 
 // The status of an answer.
-pub fn status(end: End) -> u32 {
-    if end == End::Done { 0 } else { 1 }
+pub fn status<N: Into<u32>>(end: N) -> u32 {
+    let n: u32 = end.into();
+    u32::from(n != 0)
 }

@@ -27,8 +27,28 @@ pub fn gap(b: u8) -> bool
     matches!(b, b' ' | b'\n')
 }
 
+// What is looked for: a line feed, the start of a comment, a space or line feed.
+#[derive(Clone, Copy)]
+pub enum What {
+    Feed,
+    Comment,
+    Gap,
+}
+
+// Where it stands first from a place on, or the text's length.
+pub fn find(text: &[u8], from: usize, what: What) -> usize
+    requires { from ≤ length text.now }
+    ensures { (from ≤ result) × IsPrefixLen result text.now }
+{
+    match what {
+        What::Feed => find_by(text, from, feed),
+        What::Comment => find_by(text, from, comment),
+        What::Gap => find_by(text, from, gap),
+    }
+}
+
 // Where the first byte stands, from a place on, of which `what` holds, or the text's length.
-pub fn find<F: Fn(u8) -> bool>(text: &[u8], from: usize, what: F) -> usize
+pub fn find_by<F: Fn(u8) -> bool>(text: &[u8], from: usize, what: F) -> usize
     requires within { from ≤ length text.now }
     requires callable { F.IsAlwaysCallable what }
     ensures { (from ≤ result) × IsPrefixLen result text.now }

@@ -2,7 +2,7 @@
 ghost use Rattle.std.specs.Prelude.{◌+◌, ◌<◌, ◌≤◌, length};
 ghost use Rattle.text.specs.Counts.{IsPrefixLen};
 
-use crate::find::{blank, comment, find};
+use crate::find::{What, blank, find};
 
 // Whether a space may stand behind these bytes: neither at the start nor behind another one.
 fn may_part(done: &[u8]) -> bool {
@@ -43,7 +43,7 @@ pub fn clean(line: &[u8], room: &mut [u8]) -> usize
     requires { length line.now < length room.old }
     ensures { IsPrefixLen result room.new }
 {
-    let cut = find(line, 0, comment);
+    let cut = find(line, 0, What::Comment);
     let n = squeeze(&line[..cut], room);
     room[n] = b'\n';
     n + 1
