@@ -25,18 +25,18 @@ pub fn question(s: &State, t: Triple, next: Triple) -> Swap {
 pub struct Places {
     pub end: End,
     pub all: [u32; 22],
-    reads: usize,
-    writes: usize,
+    pub reads: u32,
+    pub writes: u32,
 }
 
 impl Places {
     pub fn read(&self) -> &[u32] {
-        self.all.get(..self.reads).unwrap_or(&[])
+        self.all.get(..self.reads as usize).unwrap_or(&[])
     }
 
     pub fn written(&self) -> &[u32] {
-        let behind = self.all.get(self.reads..).unwrap_or(&[]);
-        behind.get(..self.writes).unwrap_or(&[])
+        let behind = self.all.get(self.reads as usize..).unwrap_or(&[]);
+        behind.get(..self.writes as usize).unwrap_or(&[])
     }
 }
 
@@ -49,7 +49,7 @@ pub fn places_of(s: &State, t: Triple) -> Places {
     Places {
         end: listed.end,
         all,
-        reads: listed.reads as usize,
-        writes: listed.writes as usize,
+        reads: listed.reads,
+        writes: listed.writes,
     }
 }

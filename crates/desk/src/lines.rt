@@ -10,7 +10,7 @@ pub fn clean<'a>(line: &[u8], room: &'a mut [u8]) -> &'a [u8]
     ensures { length result.now ≤ length room.old }
 {
     let cut = find(line, 0, What::Comment);
-    // Blank lines are many, and soon done. No line is longer than the room that the callers have.
+    // Empty lines and comments are many, and soon done. No line is longer than the room that the callers have.
     if cut == 0 || cut > room.len() {
         return &[];
     }

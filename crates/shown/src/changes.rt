@@ -47,9 +47,17 @@ fn vector_among(places: &[Option<Place>; 22]) -> Option<usize> {
     })
 }
 
-// Takes down what a step will write: its places, as swap::places lists them in the state before it, and the first place of all that it touches.
-pub fn note(state: View<'_>, first: u32, written: &[u32]) -> Noted {
-    let places = from_fn(|i| written.get(i).and_then(|&p| place_of(p)));
+// The places that are written, which stand behind those that are read.
+fn written(places: &[u32; 22], reads: u32, writes: u32) -> [Option<Place>; 22] {
+    let behind = places.get(reads as usize..).unwrap_or(&[]);
+    let written = behind.get(..writes as usize).unwrap_or(behind);
+    from_fn(|i| written.get(i).and_then(|&p| place_of(p)))
+}
+
+// Takes down what a step will write: its places, as swap::places lists them in the state before it.
+pub fn note(places: &[u32; 22], reads: u32, writes: u32, state: View<'_>) -> Noted {
+    let first = places[0];
+    let places = written(places, reads, writes);
     let vector = match vector_among(&places) {
         Some(n) => bytes_of(state, Subject::Vector(n)),
         None => [0; 16],
