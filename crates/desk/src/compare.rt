@@ -88,7 +88,7 @@ pub fn compare(out: Stdout, run: &Run, answers: bool, text: &[u8]) -> Tally {
     let mut t = unsaid(out, answers, run.end);
     for (i, raw) in text.split(|&b| feed(b)).enumerate() {
         let line = clean(raw, &mut room);
-        if dotted(line) {
+        if line.is_empty() || dotted(line) {
             continue;
         }
         if let Ok(Some(e)) = expected(line) {

@@ -15,9 +15,10 @@ pub fn turn<'a, W: Write>(job: Job, text: &'a [u8], out: &mut W) -> Result<(), F
     for (line, all) in (1u32..).zip(text.split(|&b| feed(b))) {
         let part = &all[..find(all, 0, What::Comment)];
         // Blank lines are many, and soon done.
-        if part.iter().all(|&b| blank(b)) {
+        let Some(from) = part.iter().position(|&b| !blank(b)) else {
             continue;
-        }
+        };
+        let part = &part[from..];
         match job {
             Job::Names => to_lines::all(line, part, out)?,
             Job::Words => to_words::whole(line, part, &mut room, out)?,
