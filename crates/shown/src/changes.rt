@@ -1,11 +1,15 @@
 // What a step changed: what stands at the places that it writes is noted before it, and compared after it.
-ghost use Rattle.std.specs.Prelude.{◌≤◌};
+ghost use Rattle.std.specs.Prelude.{◌≡◌, ◌/◌, ◌^◌, ◌<◌, ◌≤◌, Some, get_or, ℕ};
+ghost use Rattle.orders.specs.declared.Kind.TheVariants.{A};
+ghost use Rattle.terms.specs.declared.Half.{Half};
+ghost use Rattle.shown.specs.declared.places.Place.TheVariants as P;
 
 use crate::cells::address_of;
 use crate::figures::{access, bytes_change};
 use crate::parts;
 use crate::places::{Place, place_of};
 use crate::registers::{named, vector_named};
+use crate::state::State;
 use crate::subjects::bytes_of;
 use crate::view::View;
 use orders::{Field, Kind, Subject};
@@ -27,7 +31,9 @@ pub struct Noted {
 // ---- before the step
 
 // The word of the register that a place lies in, or its byte of the store. A vector is noted by itself.
-fn word_at(state: View<'_>, place: Option<Place>) -> u32 {
+fn word_at(state: View<'_>, place: Option<Place>) -> u32
+    ensures a { (n : ℕ) → (h : Half) → place ≡ Some (P.Half A n h) → result ≡ get_or state.entry.a.now n 0 }
+{
     match place {
         Some(Place::Half(kind, n, _)) => state.word(kind, n),
         Some(Place::Byte(i)) => u32::from(state.byte(i)),
@@ -54,10 +60,10 @@ fn written(places: &[u32; 22], reads: u32, writes: u32) -> [Option<Place>; 22] {
     from_fn(|i| written.get(i).and_then(|&p| place_of(p)))
 }
 
-// Takes down what a step will write: its places, as swap::places lists them in the state before it.
-pub fn note(places: &[u32; 22], reads: u32, writes: u32, state: View<'_>) -> Noted {
-    let first = places[0];
-    let places = written(places, reads, writes);
+// Takes down what stands at the places that a step will write, and the code of the first place of all that it touches.
+fn taken(places: [Option<Place>; 22], first: u32, state: View<'_>) -> Noted
+    ensures code { first < 64 → result.code ≡ get_or state.entry.a.now (first / 2) 0 / 2 ^ 30 }
+{
     let vector = match vector_among(&places) {
         Some(n) => bytes_of(state, Subject::Vector(n)),
         None => [0; 16],
@@ -70,6 +76,20 @@ pub fn note(places: &[u32; 22], reads: u32, writes: u32, state: View<'_>) -> Not
         vector,
         code,
     }
+}
+
+// Takes down what a step will write: its places, as swap::places lists them in the state before it, and the first place of all that it touches, which need not
+// be one of them.
+pub fn note(state: &State, first: u32, written: &[u32]) -> Noted
+    ensures code { first < 64 → result.code ≡ get_or state.now.a (first / 2) 0 / 2 ^ 30 }
+{
+    let places = from_fn(|i| written.get(i).and_then(|&p| place_of(p)));
+    taken(places, first, state.view())
+}
+
+// The same by the whole list of swap::places, and its two counts.
+pub fn note_listed(places: &[u32; 22], reads: u32, writes: u32, state: View<'_>) -> Noted {
+    taken(written(places, reads, writes), places[0], state)
 }
 
 // ---- after it: registers
@@ -175,6 +195,44 @@ pub fn changes(out: Stdout, before: &Noted, state: View<'_>) {
     for (&place, &old) in before.places.iter().zip(&before.words) {
         if let Some(place) = place {
             change(out, before, place, old, state);
+        }
+    }
+}
+
+#[cfg(test)]
+mod tests {
+    use super::*;
+
+    // By the numbers of docs/PLACES.md: the store's first sixteen bytes, a register of each kind, and a number that is no place's; the base is none of them.
+    #[test]
+    fn notes_more_than_a_list_holds(rt: HostRuntime) {
+        let written = [
+            144, 145, 146, 147, 148, 149, 150, 151, 152, 153, 154, 155, 156, 157, 158, 159, 7, 69,
+            98, 131, 140, 8336,
+        ];
+        let mut state = State::zeros();
+        state.ds[15] = 0x5a;
+        state.set_word(Kind::A, 3, 0x8000_0003);
+        state.set_word(Kind::A, 31, 0xc000_0000);
+        state.set_word(Kind::R, 5, 0x1234_5678);
+        state.set_word(Kind::C, 1, 0x0000_0400);
+        state.set_word(Kind::Vc, 2, 0x0000_ffff);
+        state.set_vector(2, [7; 16]);
+        let before = note(&state, 63, &written);
+        assert_eq!(rt; before.code, 3, "the code of $a31");
+        assert_eq!(rt; before.vector, [7; 16], "$v2");
+        let words = [
+            (14, 0),
+            (15, 0x5a),
+            (16, 0x8000_0003),
+            (17, 0x1234_5678),
+            (18, 0),
+            (19, 0x0400),
+            (20, 0xffff),
+            (21, 0),
+        ];
+        for (i, word) in words {
+            assert_eq!(rt; before.words[i], word, "the word at place {i}");
         }
     }
 }

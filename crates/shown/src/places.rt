@@ -1,5 +1,8 @@
 // What a place's number stands for: docs/PLACES.md has the numbers.
-ghost use Rattle.std.specs.Prelude.{◌≡◌, ◌+◌, ◌<◌, IfSome};
+ghost use Rattle.std.specs.Prelude.{◌≡◌, ◌+◌, ◌/◌, ◌%◌, ◌==◌, ◌<◌, Some, IfSome, cond};
+ghost use Rattle.orders.specs.declared.Kind.TheVariants.{A};
+ghost use Rattle.terms.specs.declared.Half.TheVariants.{Low, High};
+ghost use Rattle.shown.specs.declared.places.Place.TheVariants as P;
 
 use orders::Kind;
 use terms::Half;
@@ -13,13 +16,17 @@ pub enum Place {
 }
 
 // The half n of a kind's registers.
-fn half(kind: Kind, n: usize) -> Place {
+fn half(kind: Kind, n: usize) -> Place
+    ensures { result ≡ P.Half kind (n / 2) (cond (n % 2 == 0) Low High) }
+{
     let half = if n % 2 == 0 { Half::Low } else { Half::High };
     Place::Half(kind, n / 2, half)
 }
 
 // The place of a number, if it is one.
-pub fn place_of(number: u32) -> Option<Place> {
+pub fn place_of(number: u32) -> Option<Place>
+    ensures a { number < 64 → result ≡ Some (P.Half A (number / 2) (cond (number % 2 == 0) Low High)) }
+{
     let n = number as usize;
     match n {
         0..=63 => Some(half(Kind::A, n)),
