@@ -60,36 +60,41 @@ fn written(places: &[u32; 22], reads: u32, writes: u32) -> [Option<Place>; 22] {
     from_fn(|i| written.get(i).and_then(|&p| place_of(p)))
 }
 
-// Takes down what stands at the places that a step will write, and the code of the first place of all that it touches.
-fn taken(places: [Option<Place>; 22], first: u32, state: View<'_>) -> Noted
-    ensures code { first < 64 → result.code ≡ get_or state.entry.a.now (first / 2) 0 / 2 ^ 30 }
+// The stride code of the register that a place lies in.
+fn code_at(state: View<'_>, place: u32) -> usize
+    ensures a { place < 64 → result ≡ get_or state.entry.a.now (place / 2) 0 / 2 ^ 30 }
 {
+    (word_at(state, place_of(place)) >> 30) as usize
+}
+
+// Takes down what a step will write: its places, as swap::places lists them in the state before it.
+pub fn note_listed(places: &[u32; 22], reads: u32, writes: u32, state: View<'_>) -> Noted {
+    let first = places[0];
+    let places = written(places, reads, writes);
     let vector = match vector_among(&places) {
         Some(n) => bytes_of(state, Subject::Vector(n)),
         None => [0; 16],
     };
     // The first place of a load or store lies in its base register; of other steps the code is not used.
-    let code = (word_at(state, place_of(first)) >> 30) as usize;
     Noted {
         places,
         words: words_at(state, &places),
         vector,
-        code,
+        code: code_at(state, first),
     }
 }
 
-// Takes down what a step will write: its places, as swap::places lists them in the state before it, and the first place of all that it touches, which need not
-// be one of them.
+// The same by the first of all its places, whichever that is, and those that it writes, of which the first 22 are taken.
 pub fn note(state: &State, first: u32, written: &[u32]) -> Noted
     ensures code { first < 64 → result.code ≡ get_or state.now.a (first / 2) 0 / 2 ^ 30 }
 {
-    let places = from_fn(|i| written.get(i).and_then(|&p| place_of(p)));
-    taken(places, first, state.view())
-}
-
-// The same by the whole list of swap::places, and its two counts.
-pub fn note_listed(places: &[u32; 22], reads: u32, writes: u32, state: View<'_>) -> Noted {
-    taken(written(places, reads, writes), places[0], state)
+    let n = written.len().min(22);
+    let mut places = [0; 22];
+    places[..n].copy_from_slice(&written[..n]);
+    Noted {
+        code: code_at(state.view(), first),
+        ..note_listed(&places, 0, n as u32, state.view())
+    }
 }
 
 // ---- after it: registers
