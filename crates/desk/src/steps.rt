@@ -86,7 +86,12 @@ impl Run {
         let swap = next.map(|next| calls::question(&self.state, t, next));
         let places = calls::places_of(&self.state, t);
         cells::count(&mut self.banks, &places.all);
-        let before = changes::note_listed(&places.all, places.reads, places.writes, self.state.view());
+        let before = changes::note_listed(
+            &places.all,
+            places.reads,
+            places.writes,
+            self.state.view(),
+        );
         let x = calls::step(&mut self.state, t);
         if loud {
             print_step(out, self.steps.wrapping_add(1), t, x, swap);

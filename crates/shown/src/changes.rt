@@ -75,11 +75,11 @@ pub fn note_listed(places: &[u32; 22], reads: u32, writes: u32, state: View<'_>)
         Some(n) => bytes_of(state, Subject::Vector(n)),
         None => [0; 16],
     };
-    // The first place of a load or store lies in its base register; of other steps the code is not used.
     Noted {
         places,
         words: words_at(state, &places),
         vector,
+        // The first place of a load or store lies in its base register; of other steps the code is not used.
         code: code_at(state, first),
     }
 }
@@ -208,12 +208,12 @@ pub fn changes(out: Stdout, before: &Noted, state: View<'_>) {
 mod tests {
     use super::*;
 
-    // By the numbers of docs/PLACES.md: the store's first sixteen bytes, a register of each kind, and a number that is no place's; the base is none of them.
+    // By the numbers of docs/PLACES.md: the store's first sixteen bytes, a register of each kind, and a number of no place. The first place, in $a31, is none of them.
     #[test]
     fn notes_more_than_a_list_holds(rt: HostRuntime) {
         let written = [
             144, 145, 146, 147, 148, 149, 150, 151, 152, 153, 154, 155, 156, 157, 158, 159, 7, 69,
-            98, 131, 140, 8336,
+            98, 131, 8336, 140,
         ];
         let mut state = State::zeros();
         state.ds[15] = 0x5a;
@@ -233,8 +233,8 @@ mod tests {
             (17, 0x1234_5678),
             (18, 0),
             (19, 0x0400),
-            (20, 0xffff),
-            (21, 0),
+            (20, 0),
+            (21, 0xffff),
         ];
         for (i, word) in words {
             assert_eq!(rt; before.words[i], word, "the word at place {i}");
