@@ -49,3 +49,26 @@ pub fn byte_of(number: u32) -> Option<usize>
 pub fn in_store(number: u32) -> bool {
     byte_of(number).is_some()
 }
+
+#[cfg(test)]
+mod tests {
+    use super::*;
+
+    // Both ends of each row of docs/PLACES.md.
+    #[test]
+    fn numbers_stand_for_places(rt: HostRuntime) {
+        assert!(rt; matches!(place_of(0), Some(Place::Half(Kind::A, 0, Half::Low))));
+        assert!(rt; matches!(place_of(63), Some(Place::Half(Kind::A, 31, Half::High))));
+        assert!(rt; matches!(place_of(64), Some(Place::Half(Kind::R, 0, _))));
+        assert!(rt; matches!(place_of(95), Some(Place::Half(Kind::R, 31, _))));
+        assert!(rt; matches!(place_of(96), Some(Place::Vector(0))));
+        assert!(rt; matches!(place_of(127), Some(Place::Vector(31))));
+        assert!(rt; matches!(place_of(128), Some(Place::Half(Kind::C, 0, Half::Low))));
+        assert!(rt; matches!(place_of(135), Some(Place::Half(Kind::C, 3, Half::High))));
+        assert!(rt; matches!(place_of(136), Some(Place::Half(Kind::Vc, 0, Half::Low))));
+        assert!(rt; matches!(place_of(143), Some(Place::Half(Kind::Vc, 3, Half::High))));
+        assert!(rt; matches!(place_of(144), Some(Place::Byte(0))));
+        assert!(rt; matches!(place_of(8335), Some(Place::Byte(8191))));
+        assert!(rt; place_of(8336).is_none());
+    }
+}
